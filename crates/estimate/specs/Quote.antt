@@ -1,0 +1,54 @@
+-- What an order costs. Assumes nothing.
+--   rounded-up a b        a / b, a part counted as a whole
+--   Least a b n           n is the least number with a at most b n
+--   needed o              sheets of four pages for all copies
+--   spoilt o t            sheets more for wastage
+--   gross o t price       price of all sheets and of folding those needed
+--   taken-off o t price   the discount of a large order
+--   quoted o t price      all figures
+use mathlib.Core.Bool.{cond}
+use Prim.Native.Nat.{ℕ, _+_, _-_, _*_, _/_, _<_, _≤_}
+use lib.Dec.{leb}
+use Rattle.estimate.specs.declared.order.Order.{Order}
+use Rattle.estimate.specs.declared.order.Terms.{Terms}
+use Rattle.estimate.specs.declared.quote.Quote.{Quote}
+
+-- a / b, a part counted as a whole
+abbrev pub rounded-up : ℕ → ℕ → ℕ
+rounded-up a b = (a + (b - 1)) / b
+
+-- the least n with a at most b n
+abbrev pub Least : ℕ → ℕ → ℕ → Type 0
+Least a b n = (a ≤ b * n) × ((m : ℕ) → a ≤ b * m → n ≤ m)
+
+-- sheets of four pages that the copies need
+abbrev pub needed : Order → ℕ
+needed o = o .copies * rounded-up (o .pages) 4
+
+-- sheets more, of which printing spoils so many in a hundred
+abbrev pub spoilt : Order → Terms → ℕ
+spoilt o t = rounded-up (needed o * t .wastage .value) 100
+
+-- all sheets at the paper's price
+abbrev pub paper : Order → Terms → ℕ → ℕ
+paper o t price = (needed o + spoilt o t) * price
+
+-- folding of the sheets that are needed
+abbrev pub folding : Order → Terms → ℕ
+folding o t = needed o * t .fold
+
+-- from so many copies on, so much in a hundred is taken off both
+abbrev pub taken-off : Order → Terms → ℕ → ℕ
+taken-off o t price =
+    cond (leb (t .large) (o .copies)) (((paper o t price + folding o t) * t .discount .value) / 100) 0
+
+-- the figures, with the total rounded to the nearest cent
+abbrev pub quoted : Order → Terms → ℕ → Quote
+quoted o t price = record {
+  needed = needed o;
+  spoilt = spoilt o t;
+  paper = paper o t price;
+  folding = folding o t;
+  discount = taken-off o t price;
+  cents = (paper o t price + folding o t - taken-off o t price + 50) / 100;
+}

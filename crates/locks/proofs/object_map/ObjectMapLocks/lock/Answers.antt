@@ -1,0 +1,32 @@
+use mathlib.Core.Path.{_≡_, sym, ap, _∙_}
+use mathlib.Core.Bool.{true, cond}
+use Prim.Native.Nat.{_-_}
+use lib.ListN.{length}
+use native.Mathlib.Omega.{arith}
+use Rattle.locks.specs.ObjectMap.{lawful, begun}
+use Rattle.locks.proofs.Starts.{counts-lawful, counts-none, guarded}
+use Rattle.locks.proofs.object_map.ObjectMapLocks.lock.Needs as need
+
+pub returns-then-self-eq0 : need.returns-then-self-eq0
+returns-then-self-eq0 c =
+    let xs = c .args .self .now .starts .now in
+    let none = sym (c .args .self .now .counted) ∙ c .if-self-eq0 .taken in
+    record {
+      told = sym (ap (λ b. cond b (begun (c .args .place) xs - 1) 0) (counts-none xs none));
+      below = λ some. some;
+      last = λ some. absurd (omega (arith, none, some));
+    }
+
+pub last-start-requires : need.last-start-requires
+last-start-requires c κs =
+    counts-lawful (c .args .self .now .starts .now) (λ none. c .if-self-eq0 .left (c .args .self .now .counted ∙ none))
+
+pub returns : need.returns
+returns c =
+    let xs = c .args .self .now .starts .now in
+    let fit : lawful xs ≡ true = counts-lawful xs (λ none. c .if-self-eq0 .left (c .args .self .now .counted ∙ none)) in
+    record {
+      told = guarded xs (c .args .place) _ fit (c .last-start .ensures);
+      below = λ some. omega (arith, c .last-start .ensures .within, ap (λ b. cond b (length xs) 0) fit);
+      last = λ some. c .last-start .ensures;
+    }

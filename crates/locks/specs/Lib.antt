@@ -1,0 +1,3 @@
+pub mod LockWord
+pub mod LineMap
+pub mod ObjectMap

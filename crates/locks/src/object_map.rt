@@ -1,0 +1,86 @@
+// The object map: a lock for each object, by the place at which it starts. The list of starts is lent
+// and looked over once, as the map is made; a place is then found by binary search.
+ghost use mathlib.Core.Path.{_≡_};
+ghost use mathlib.Core.Bool.{true};
+ghost use denote.Ref.{now as behind};
+ghost use Prim.Native.Nat.{_<_, _≤_};
+ghost use Rattle.locks.specs.ObjectMap.{object-locks, object-guard, lawful, rising, Last-start};
+use crate::lock_map::LockMap;
+
+// The most objects that a map may have.
+pub const MOST_OBJECTS: usize = 256;
+
+#[derive(Drop)]
+pub struct ObjectMap<'a> {
+    starts: &'a [u32],
+    locks: u32,
+    ghost counted: { locks ≡ object-locks (behind starts) },
+}
+
+impl<'a> ObjectMap<'a> {
+    // A map over these starts. Where they are not lawful it counts 0 locks.
+    pub fn new(starts: &'a [u32]) -> ObjectMap<'a>
+        ensures { λ r. ⌜ now (r .starts) ≡ now (starts .entry) ⌝ }
+    {
+        let locks = if is_lawful(starts) {
+            starts.len() as u32
+        } else {
+            0
+        };
+        ObjectMap { starts, locks }
+    }
+}
+
+pub impl<'a> LockMap for ObjectMap<'a> as ObjectMapLocks {
+    ghost locks = { λ m. object-locks (behind (m .starts)) };
+
+    ghost guard = { λ m p. object-guard (behind (m .starts)) p };
+
+    fn count(&self) -> u32 {
+        self.locks
+    }
+
+    // With locks to count, the index of the last start not above the place.
+    fn lock(&self, place: u32) -> u32
+        ensures told { λ r. ⌜ r ≡ object-guard (now (now (self .entry) .starts)) place ⌝ }
+        ensures below { λ r. ⌜ (0 < object-locks (now (now (self .entry) .starts)) → r < object-locks (now (now (self .entry) .starts))) ⌝ }
+        ensures last { λ r. ⌜ (0 < object-locks (now (now (self .entry) .starts)) → Last-start (now (now (self .entry) .starts)) place r) ⌝ }
+    {
+        if self.locks == 0 {
+            return 0;
+        }
+        last_start(self.starts, place)
+    }
+}
+
+// Whether there are 1 to 256 starts, the first is 0, and they rise strictly.
+fn is_lawful(starts: &[u32]) -> bool
+    ensures { λ r. ⌜ r ≡ lawful (now (starts .entry)) ⌝ }
+{
+    let Some(first) = starts.first() else {
+        return false;
+    };
+    *first == 0 && starts.len() <= MOST_OBJECTS && rises(starts)
+}
+
+fn rises(starts: &[u32]) -> bool
+    ensures { λ r. ⌜ r ≡ rising (now (starts .entry)) ⌝ }
+{
+    for i in 1..starts.len() {
+        if starts[i - 1] >= starts[i] {
+            return false;
+        }
+    }
+    true
+}
+
+// The index of the last start not above the place.
+fn last_start(starts: &[u32], place: u32) -> u32
+    requires { ⌜ lawful (now starts) ≡ true ⌝ }
+    ensures { λ r. ⌜ Last-start (now (starts .entry)) place r ⌝ }
+{
+    match starts.binary_search(&place) {
+        Ok(i) => i as u32,
+        Err(i) => i as u32 - 1,
+    }
+}

@@ -1,0 +1,72 @@
+// The flat memory: the caller's cells, lent. Of more than 1,048,576 cells those past that number are
+// not part of it and are never touched.
+ghost use mathlib.Core.Path.{_≡_};
+ghost use Prim.Native.Nat.{_<_};
+ghost use denote.Ref.{now, name};
+ghost use lib.ListN.{length, set, take, drop};
+ghost use Rattle.std.specs.Finite.{nth};
+ghost use Rattle.std.specs.Results.{Cases};
+ghost use Rattle.std.specs.declared.option.Option.the-variants.{Some};
+ghost use Rattle.memory.specs.Cells.{most-cells, stored};
+ghost use Rattle.memory.specs.Places.{Here, Past};
+use crate::fault::MemoryFault;
+use crate::memory::MOST_CELLS;
+use crate::memory::Memory;
+
+#[derive(Drop)]
+pub struct Flat<'a, V> {
+    pub cells: &'a mut [V],
+}
+
+pub impl<'a, V: Copy> Memory for Flat<'a, V> as FlatMemory {
+    type Value = V;
+
+    ghost cells = { λ m. take most-cells (now (m .cells)) };
+
+    fn count(&self) -> u32 {
+        self.cells.len().min(MOST_CELLS as usize) as u32
+    }
+
+    fn load(&self, place: u32) -> Result<V, MemoryFault> {
+        let index = self.index_of(place)?;
+        Ok(read(self.cells, index))
+    }
+
+    // Cells past the count stay as they are, and the memory stays on the cells that it was lent.
+    fn store(&mut self, place: u32, value: V) -> Result<(), MemoryFault>
+        ensures answer { λ r. ⌜ r ≡ stored (take most-cells (now (now (self .entry) .cells))) place ⌝ }
+        ensures after { λ _. ⌜ take most-cells (now (now (self .exit) .cells)) ≡ set (take most-cells (now (now (self .entry) .cells))) place value ⌝ }
+        ensures beyond { λ _. ⌜ drop most-cells (now (now (self .exit) .cells)) ≡ drop most-cells (now (now (self .entry) .cells)) ⌝ }
+        ensures lender { λ _. ⌜ name (now (self .exit) .cells) ≡ name (now (self .entry) .cells) ⌝ }
+    {
+        let index = self.index_of(place)?;
+        write(self.cells, index, value);
+        Ok(())
+    }
+}
+
+impl<'a, V: Copy> Flat<'a, V> {
+    // The index of the cell at a place, refused at or past the count.
+    fn index_of(&self, place: u32) -> Result<usize, MemoryFault>
+        ensures { λ r. ⌜ Cases r (Here (take most-cells (now (now (self .entry) .cells))) place) (Past (take most-cells (now (now (self .entry) .cells))) place) ⌝ }
+    {
+        if place >= self.count() {
+            return Err(MemoryFault::PastEnd(place));
+        }
+        Ok(place as usize)
+    }
+}
+
+fn read<V: Copy>(cells: &[V], index: usize) -> V
+    requires { ⌜ index < length (now cells) ⌝ }
+    ensures { λ r. ⌜ nth (now (cells .entry)) index ≡ Some r ⌝ }
+{
+    cells[index]
+}
+
+fn write<V: Copy>(cells: &mut [V], index: usize, value: V)
+    requires { ⌜ index < length (now cells) ⌝ }
+    ensures { λ _. ⌜ now (cells .exit) ≡ set (now (cells .entry)) index value ⌝ }
+{
+    cells[index] = value;
+}

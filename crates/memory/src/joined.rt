@@ -1,0 +1,63 @@
+// The joined memory: the cells of a second memory behind those of a first, up to 1,048,576 in all.
+ghost use mathlib.Core.List.{_++_};
+ghost use lib.ListN.{take};
+ghost use Rattle.std.specs.Results.{Cases};
+ghost use Rattle.memory.specs.Cells.{most-cells};
+ghost use Rattle.memory.specs.Places.{Lies, Past};
+use crate::fault::MemoryFault;
+use crate::memory::MOST_CELLS;
+use crate::memory::Memory;
+
+#[derive(Drop)]
+pub struct Joined<A, B> {
+    pub first: A,
+    pub second: B,
+}
+
+// Which of the two memories has a cell, and at which of its places.
+#[derive(Clone, Copy)]
+pub(crate) enum Half {
+    First(u32),
+    Second(u32),
+}
+
+pub impl<A: Memory, B: Memory<Value = A::Value>> Memory for Joined<A, B> as JoinedMemory {
+    type Value = A::Value;
+
+    ghost cells = { λ m. take most-cells (A·Memory .cells (m .first) ++ B·Memory .cells (m .second)) };
+
+    fn count(&self) -> u32 {
+        (self.first.count() + self.second.count()).min(MOST_CELLS)
+    }
+
+    fn load(&self, place: u32) -> Result<A::Value, MemoryFault> {
+        match self.locate(place)? {
+            Half::First(inner) => self.first.load(inner),
+            Half::Second(inner) => self.second.load(inner),
+        }
+    }
+
+    fn store(&mut self, place: u32, value: A::Value) -> Result<(), MemoryFault> {
+        match self.locate(place)? {
+            Half::First(inner) => self.first.store(inner, value),
+            Half::Second(inner) => self.second.store(inner, value),
+        }
+    }
+}
+
+impl<A: Memory, B: Memory<Value = A::Value>> Joined<A, B> {
+    // Where the cell at a place lies, refused at or past the count with the place that was asked for.
+    fn locate(&self, place: u32) -> Result<Half, MemoryFault>
+        ensures { λ r. ⌜ Cases r (Lies (A·Memory .cells (now (self .entry) .first)) (take most-cells (A·Memory .cells (now (self .entry) .first) ++ B·Memory .cells (now (self .entry) .second))) place) (Past (take most-cells (A·Memory .cells (now (self .entry) .first) ++ B·Memory .cells (now (self .entry) .second))) place) ⌝ }
+    {
+        if place >= self.count() {
+            return Err(MemoryFault::PastEnd(place));
+        }
+        let split = self.first.count();
+        Ok(if place < split {
+            Half::First(place)
+        } else {
+            Half::Second(place - split)
+        })
+    }
+}

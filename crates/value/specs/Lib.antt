@@ -1,0 +1,4 @@
+pub mod Fault
+pub mod Kind
+pub mod Number
+pub mod StockRecord

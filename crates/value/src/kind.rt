@@ -1,0 +1,58 @@
+// What a kind of value is: how many parts its values have, what they are, and which parts make a value.
+ghost use mathlib.Core.Path.{_≡_};
+ghost use mathlib.Core.List.{List};
+ghost use Prim.Native.Nat.{ℕ, _<_, _≤_, _^_};
+ghost use lib.ListN.{length};
+ghost use Rattle.std.specs.Finite.{nth};
+ghost use Rattle.std.specs.declared.option.Option.{Option};
+ghost use Rattle.std.specs.declared.option.Option.the-variants.{Some};
+ghost use Rattle.value.specs.Kind.{built, Each-below};
+use crate::fault::ValueFault;
+
+pub trait Kind: Copy {
+    // how many parts a value has
+    ghost size: { ℕ };
+
+    // every part is at most this
+    ghost limit: { ℕ };
+
+    // the parts of a value
+    ghost parts: { Self → List ℕ };
+
+    // the value that has these parts, where the kind has one
+    ghost value: { List ℕ → Option Self };
+
+    // a value has one to four parts of at most 64 bits
+    law few: { (1 ≤ size) × (size ≤ 4) × (limit < 2 ^ 64) };
+
+    // a value's parts are as many as the kind tells
+    law counted: { (x : Self) → length (parts x) ≡ size };
+
+    // the parts of a built value are the parts given
+    law given: { (ps : List ℕ) (x : Self) → value ps ≡ Some x → parts x ≡ ps };
+
+    // building from a built value's parts gives that value
+    law again: { (ps : List ℕ) (x : Self) → value ps ≡ Some x → value (parts x) ≡ Some x };
+
+    // values with the same parts are the same value
+    law same: { (x y : Self) → parts x ≡ parts y → x ≡ y };
+
+    // no part of a built value is over the limit
+    law narrow: { (ps : List ℕ) (x : Self) → value ps ≡ Some x → Each-below limit ps };
+
+    // How many parts a value has.
+    fn part_count() -> usize
+        ensures { λ r. ⌜ r ≡ size ⌝ };
+
+    // The largest number that a part may be.
+    fn part_limit() -> u64
+        ensures { λ r. ⌜ r ≡ limit ⌝ };
+
+    // The part at an index, or none past the last.
+    fn part(self, index: usize) -> Option<u64>
+        ensures { λ r. ⌜ r ≡ nth (parts self) index ⌝ };
+
+    // The value with these parts, or a refusal with how many they were.
+    fn build(given: &[u64]) -> Result<Self, ValueFault>
+        ensures { λ r. ⌜ r ≡ built (value (now (given .entry))) (length (now (given .entry))) ⌝ };
+}
