@@ -1,11 +1,11 @@
 -- What an order costs. Assumes nothing.
 --   rounded-up a b        a / b, a part counted as a whole
---   Least a b n           n is the least number with a at most b n
 --   needed o              sheets of four pages for all copies
 --   spoilt o t            sheets more for wastage
 --   gross o t price       price of all sheets and of folding those needed
 --   taken-off o t price   the discount of a large order
 --   quoted o t price      all figures
+--   Fair o t q            what a customer and the shop may hold a quote to
 use mathlib.Core.Bool.{cond}
 use Prim.Native.Nat.{ℕ, _+_, _-_, _*_, _/_, _<_, _≤_}
 use lib.Dec.{leb}
@@ -16,10 +16,6 @@ use Rattle.estimate.specs.declared.quote.Quote.{Quote}
 -- a / b, a part counted as a whole
 abbrev pub rounded-up : ℕ → ℕ → ℕ
 rounded-up a b = (a + (b - 1)) / b
-
--- the least n with a at most b n
-abbrev pub Least : ℕ → ℕ → ℕ → Type 0
-Least a b n = (a ≤ b * n) × ((m : ℕ) → a ≤ b * m → n ≤ m)
 
 -- sheets of four pages that the copies need
 abbrev pub needed : Order → ℕ
@@ -52,3 +48,15 @@ quoted o t price = record {
   discount = taken-off o t price;
   cents = (paper o t price + folding o t - taken-off o t price + 50) / 100;
 }
+
+-- what a customer and the shop may hold a quote to
+pub record Fair (o : Order) (t : Terms) (q : Quote) : Type 0 where
+  -- the sheets have room for every page, with less than a sheet to spare in each copy
+  pub room : o .copies * o .pages ≤ 4 * q .needed
+  pub tight : 4 * q .needed ≤ o .copies * (o .pages + 3)
+  -- wastage is allowed for in full, with less than a sheet to spare
+  pub spare : q .needed * t .wastage .value ≤ 100 * q .spoilt
+  pub close : 100 * q .spoilt < q .needed * t .wastage .value + 100
+  -- the total lies within half a cent of the prices less the discount
+  pub low : q .paper + q .folding - q .discount ≤ 100 * q .cents + 49
+  pub high : 100 * q .cents ≤ q .paper + q .folding - q .discount + 50

@@ -2,7 +2,7 @@
 // not folded. Prices are in hundredths of a cent, the total in cents.
 ghost use mathlib.Core.Path.{_≡_};
 ghost use Prim.Native.Nat.{_*_, _/_, _≤_};
-ghost use Rattle.estimate.specs.Quote.{quoted, needed, rounded-up, Least};
+ghost use Rattle.estimate.specs.Quote.{quoted, needed, rounded-up, Fair};
 use crate::order::Order;
 use crate::order::Terms;
 use crate::percent::Percent;
@@ -25,7 +25,8 @@ pub struct Quote {
 
 // The figures of an order, on these terms, at this price of a sheet.
 pub fn estimate(order: Order, terms: Terms, price: u32) -> Quote
-    ensures { λ r. ⌜ r ≡ quoted order terms price ⌝ }
+    ensures figures { λ r. ⌜ r ≡ quoted order terms price ⌝ }
+    ensures fair { λ r. ⌜ Fair order terms r ⌝ }
 {
     let needed = needed_sheets(order);
     let spoilt = spoilt_sheets(needed, terms.wastage);
@@ -58,7 +59,6 @@ fn needed_sheets(order: Order) -> u32
 // The fewest sheets of four pages that hold a copy's pages.
 fn sheets_a_copy(pages: u16) -> u32
     ensures value { λ r. ⌜ r ≡ rounded-up pages 4 ⌝ }
-    ensures least { λ r. ⌜ Least pages 4 r ⌝ }
     ensures bound { λ r. ⌜ r ≤ 16384 ⌝ }
 {
     (pages as u32 + 3) / 4
@@ -67,7 +67,6 @@ fn sheets_a_copy(pages: u16) -> u32
 // A share of the sheets, a part of a sheet counted as a sheet.
 fn spoilt_sheets(needed: u32, wastage: Percent) -> u32
     ensures value { λ r. ⌜ r ≡ rounded-up (needed * wastage .value) 100 ⌝ }
-    ensures least { λ r. ⌜ Least (needed * wastage .value) 100 r ⌝ }
     ensures bound { λ r. ⌜ r ≤ needed ⌝ }
 {
     ((needed as u64 * wastage.value() as u64 + 99) / 100) as u32
@@ -87,4 +86,59 @@ fn price_of(sheets: u32, each: u32) -> u64
     ensures bound { λ r. ⌜ r ≤ sheets * 4294967295 ⌝ }
 {
     sheets as u64 * each as u64
+}
+
+#[cfg(test)]
+mod tests {
+    use super::*;
+    use std::test::*;
+
+    fn terms(wastage: u8, fold: u32, discount: u8, large: u16) -> Result<Terms, Fail> {
+        let Some(wastage) = Percent::new(wastage) else {
+            return Err(Fail::new("the wastage is over 100"));
+        };
+        let Some(discount) = Percent::new(discount) else {
+            return Err(Fail::new("the discount is over 100"));
+        };
+        Ok(Terms {
+            wastage,
+            fold,
+            discount,
+            large,
+        })
+    }
+
+    fn order(copies: u16, pages: u16) -> Order {
+        Order {
+            copies,
+            pages,
+            paper: 0,
+        }
+    }
+
+    #[test]
+    fn sheets_and_wastage_are_rounded_up() -> Result<(), Fail> {
+        let terms = terms(5, 0, 0, 1)?;
+        let quote = estimate(order(3, 5), terms, 1);
+        check_eq(quote.needed, 6)?;
+        check_eq(quote.spoilt, 1)?;
+        check_eq(estimate(order(3, 4), terms, 1).needed, 3)
+    }
+
+    #[test]
+    fn a_large_order_has_a_discount() -> Result<(), Fail> {
+        let terms = terms(5, 45, 8, 50)?;
+        let large = estimate(order(50, 4), terms, 300);
+        check_eq(large.discount, 1_452)?;
+        check_eq(large.cents, 167)?;
+        check_eq(estimate(order(49, 4), terms, 300).discount, 0)
+    }
+
+    #[test]
+    fn the_largest_order_fits() -> Result<(), Fail> {
+        let terms = terms(100, u32::MAX, 100, 0)?;
+        let quote = estimate(order(u16::MAX, u16::MAX), terms, u32::MAX);
+        check_eq(quote.spoilt, quote.needed)?;
+        check_eq(quote.cents, 0)
+    }
 }

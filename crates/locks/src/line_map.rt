@@ -26,3 +26,29 @@ pub impl LockMap for LineMap as LineMapLocks {
         place / self.span % self.locks
     }
 }
+
+#[cfg(test)]
+mod tests {
+    use super::*;
+    use std::test::*;
+
+    #[test]
+    fn lines_take_the_locks_in_turn() -> Result<(), Fail> {
+        let map = LineMap { span: 4, locks: 3 };
+        check_eq(map.count(), 3)?;
+        check_eq(map.lock(3), 0)?;
+        check_eq(map.lock(4), 1)?;
+        check_eq(map.lock(12), 0)?;
+        check_eq(map.lock(u32::MAX), 0)
+    }
+
+    #[test]
+    fn without_span_or_locks_the_answer_is_0() -> Result<(), Fail> {
+        let no_span = LineMap { span: 0, locks: 3 };
+        check_eq(no_span.count(), 0)?;
+        check_eq(no_span.lock(9), 0)?;
+        let no_locks = LineMap { span: 4, locks: 0 };
+        check_eq(no_locks.count(), 0)?;
+        check_eq(no_locks.lock(9), 0)
+    }
+}

@@ -45,3 +45,23 @@ impl Lock {
         }
     }
 }
+
+#[cfg(test)]
+mod tests {
+    use super::*;
+    use std::test::*;
+
+    #[test]
+    fn words_are_read_back() -> Result<(), Fail> {
+        check_eq(Lock::Free(0).encode(), Some(4))?;
+        check_eq(Lock::Free(LAST_VERSION).encode(), Some(4_294_967_292))?;
+        check_eq(Lock::Free(LAST_VERSION + 1).encode(), None)?;
+        check_eq(Lock::Held(7).encode(), Some(64))?;
+        check_eq(Lock::Held(8).encode(), None)?;
+        check_eq(Lock::decode(12), Some(Lock::Free(1)))?;
+        check_eq(Lock::decode(8), Some(Lock::Held(0)))?;
+        check_eq(Lock::decode(0), None)?;
+        check_eq(Lock::decode(72), None)?;
+        check_eq(Lock::decode(5), None)
+    }
+}

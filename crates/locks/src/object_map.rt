@@ -84,3 +84,52 @@ fn last_start(starts: &[u32], place: u32) -> u32
         Err(i) => i as u32 - 1,
     }
 }
+
+#[cfg(test)]
+mod tests {
+    use super::*;
+    use std::alloc::AllocError;
+    use std::alloc::Global;
+    use std::test::*;
+
+    // The starts 0, 10, 20 and so on.
+    fn tens(heap: Global, count: u32) -> Result<Vec<u32>, AllocError> {
+        let mut starts = Vec::new(heap);
+        for i in 0..count {
+            starts.push(i.saturating_mul(10))?;
+        }
+        Ok(starts)
+    }
+
+    #[test]
+    fn the_last_start_not_above_is_found() -> Result<(), Fail> {
+        let map = ObjectMap::new(&[0, 5, 9]);
+        check_eq(map.count(), 3)?;
+        check_eq(map.lock(0), 0)?;
+        check_eq(map.lock(4), 0)?;
+        check_eq(map.lock(5), 1)?;
+        check_eq(map.lock(8), 1)?;
+        check_eq(map.lock(u32::MAX), 2)
+    }
+
+    #[test]
+    fn unlawful_starts_count_no_locks() -> Result<(), Fail> {
+        check_eq(ObjectMap::new(&[]).count(), 0)?;
+        check_eq(ObjectMap::new(&[]).lock(7), 0)?;
+        check_eq(ObjectMap::new(&[0]).count(), 1)?;
+        check_eq(ObjectMap::new(&[1]).count(), 0)?;
+        check_eq(ObjectMap::new(&[0, 4, 4]).count(), 0)?;
+        check_eq(ObjectMap::new(&[0, 9, 4]).lock(9), 0)
+    }
+
+    #[test]
+    fn there_are_at_most_256_starts(rt: LibcRuntime) -> Result<(), Fail> {
+        let most = tens(rt.alloc(), 256)?;
+        let map = ObjectMap::new(most.as_slice());
+        check_eq(map.count(), 256)?;
+        check_eq(map.lock(2_549), 254)?;
+        check_eq(map.lock(2_550), 255)?;
+        let over = tens(rt.alloc(), 257)?;
+        check_eq(ObjectMap::new(over.as_slice()).count(), 0)
+    }
+}

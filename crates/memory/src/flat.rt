@@ -70,3 +70,47 @@ fn write<V: Copy>(cells: &mut [V], index: usize, value: V)
 {
     cells[index] = value;
 }
+
+#[cfg(test)]
+mod tests {
+    use super::*;
+    use crate::fault::MemoryFaultDebug;
+    use crate::fault::MemoryFaultPartialEq;
+    use std::test::*;
+
+    #[test]
+    fn the_last_cell_is_below_the_count() -> Result<(), Fail> {
+        let mut cells = [7u8, 8, 9];
+        let mut memory = Flat { cells: &mut cells };
+        check_eq(memory.count(), 3)?;
+        check_eq(memory.load(2), Ok(9))?;
+        check_eq(memory.load(3), Err(MemoryFault::PastEnd(3)))?;
+        check_eq(memory.store(2, 5), Ok(()))?;
+        check_eq(memory.store(3, 5), Err(MemoryFault::PastEnd(3)))?;
+        check_eq(cells, [7, 8, 5])
+    }
+
+    #[test]
+    fn no_cells_have_no_place() -> Result<(), Fail> {
+        let mut cells = [0u8; 0];
+        let memory = Flat { cells: &mut cells };
+        check_eq(memory.count(), 0)?;
+        check_eq(memory.load(0), Err(MemoryFault::PastEnd(0)))
+    }
+
+    #[test]
+    fn cells_past_the_most_stay(rt: LibcRuntime) -> Result<(), Fail> {
+        let mut cells = vec![in rt.alloc(); 1u8; 1_048_577]?;
+        let mut memory = Flat {
+            cells: cells.as_mut_slice(),
+        };
+        check_eq(memory.count(), 1_048_576)?;
+        check_eq(memory.store(1_048_575, 2), Ok(()))?;
+        check_eq(
+            memory.store(1_048_576, 2),
+            Err(MemoryFault::PastEnd(1_048_576)),
+        )?;
+        check_eq(cells.get(1_048_575).copied(), Some(2))?;
+        check_eq(cells.get(1_048_576).copied(), Some(1))
+    }
+}

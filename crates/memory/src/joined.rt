@@ -61,3 +61,49 @@ impl<A: Memory, B: Memory<Value = A::Value>> Joined<A, B> {
         })
     }
 }
+
+#[cfg(test)]
+mod tests {
+    use super::*;
+    use crate::fault::MemoryFaultDebug;
+    use crate::fault::MemoryFaultPartialEq;
+    use crate::flat::Flat;
+    use crate::flat::FlatMemory;
+    use std::test::*;
+
+    #[test]
+    fn the_second_follows_the_first() -> Result<(), Fail> {
+        let mut front = [1u8, 2];
+        let mut back = [3u8];
+        let mut both = Joined {
+            first: Flat { cells: &mut front },
+            second: Flat { cells: &mut back },
+        };
+        check_eq(both.count(), 3)?;
+        check_eq(both.load(1), Ok(2))?;
+        check_eq(both.load(2), Ok(3))?;
+        check_eq(both.load(3), Err(MemoryFault::PastEnd(3)))?;
+        check_eq(both.store(2, 9), Ok(()))?;
+        check_eq(both.store(4, 9), Err(MemoryFault::PastEnd(4)))?;
+        check_eq(back, [9])
+    }
+
+    #[test]
+    fn it_stops_at_the_most(rt: LibcRuntime) -> Result<(), Fail> {
+        let mut front = vec![in rt.alloc(); 1u8; 1_048_575]?;
+        let mut back = [2u8, 3];
+        let mut both = Joined {
+            first: Flat {
+                cells: front.as_mut_slice(),
+            },
+            second: Flat { cells: &mut back },
+        };
+        check_eq(both.count(), 1_048_576)?;
+        check_eq(both.load(1_048_575), Ok(2))?;
+        check_eq(
+            both.store(1_048_576, 9),
+            Err(MemoryFault::PastEnd(1_048_576)),
+        )?;
+        check_eq(back, [2, 3])
+    }
+}

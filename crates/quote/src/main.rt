@@ -21,51 +21,24 @@ fn main(rt: LibcRuntime) -> Result<(), AnyError> {
 }
 
 // Two shelves make the book. A choir's order is quoted and its paper promised; an order too large for
-// the stock and one for a paper that the book has not are refused, and leave the book as it is.
+// the stock and one for a paper that the book has not are refused, and leave the book as it was.
 fn run(rt: &LibcRuntime) -> Result<(), AnyError> {
     let mut music = [paper(2_000, 650, 230)?, paper(4_500, 1_200, 310)?];
     let mut covers = [paper(800, 0, 940)?, paper(600, 450, 1_275)?];
+    println!(
+        rt,
+        "Opening the price book: a shelf of music paper, a shelf of covers behind it."
+    )?;
     let mut book = Joined {
         first: Flat { cells: &mut music },
         second: Flat { cells: &mut covers },
     };
-    let terms = Terms {
-        wastage: percent(5)?,
-        fold: 45,
-        discount: percent(8)?,
-        large: 50,
-    };
     list(rt, &book)?;
-    order(
-        rt,
-        &mut book,
-        terms,
-        Order {
-            copies: 60,
-            pages: 22,
-            paper: 1,
-        },
-    )?;
-    order(
-        rt,
-        &mut book,
-        terms,
-        Order {
-            copies: 600,
-            pages: 22,
-            paper: 1,
-        },
-    )?;
-    order(
-        rt,
-        &mut book,
-        terms,
-        Order {
-            copies: 60,
-            pages: 4,
-            paper: 4,
-        },
-    )?;
+    let terms = terms()?;
+    place(rt, &mut book, terms, order(60, 22, 1))?;
+    place(rt, &mut book, terms, order(600, 22, 1))?;
+    place(rt, &mut book, terms, order(60, 4, 4))?;
+    println!(rt, "Closing the price book.")?;
     list(rt, &book)?;
     Ok(())
 }
@@ -78,7 +51,19 @@ fn paper(on_hand: u64, promised: u64, price: u64) -> Result<StockRecord, AnyErro
     }
 }
 
-// A percentage of the example.
+// The terms of the example: 5 in 100 sheets spoilt, 0.45 cents to fold a sheet, 8 in 100 off from 50
+// copies on.
+fn terms() -> Result<Terms, AnyError> {
+    let wastage = percent(5)?;
+    let discount = percent(8)?;
+    Ok(Terms {
+        wastage,
+        fold: 45,
+        discount,
+        large: 50,
+    })
+}
+
 fn percent(value: u8) -> Result<Percent, AnyError> {
     match Percent::new(value) {
         Some(percent) => Ok(percent),
@@ -86,9 +71,16 @@ fn percent(value: u8) -> Result<Percent, AnyError> {
     }
 }
 
+fn order(copies: u16, pages: u16, paper: u32) -> Order {
+    Order {
+        copies,
+        pages,
+        paper,
+    }
+}
+
 // Prints every paper of the book.
 fn list<M: Memory<Value = StockRecord>>(rt: &LibcRuntime, book: &M) -> io::Result<()> {
-    println!(rt, "The price book has {} papers:", book.count())?;
     for place in 0..book.count() {
         if let Ok(paper) = book.load(place) {
             print_paper(rt, place, paper)?;
@@ -99,28 +91,28 @@ fn list<M: Memory<Value = StockRecord>>(rt: &LibcRuntime, book: &M) -> io::Resul
 
 fn print_paper(rt: &LibcRuntime, place: u32, paper: StockRecord) -> io::Result<()> {
     let price = paper.price();
-    print!(rt, "  paper {place}: {} sheets on hand, ", paper.on_hand())?;
-    println!(
+    print!(
         rt,
-        "{} promised, {}.{:02} cents a sheet",
-        paper.promised(),
-        price / 100,
-        price % 100
-    )
+        "  paper {place}: {} sheets on hand, {} promised, ",
+        paper.on_hand(),
+        paper.promised()
+    )?;
+    println!(rt, "{}.{:02} cents a sheet", price / 100, price % 100)
 }
 
 // Places an order and prints what comes of it.
-fn order<M: Memory<Value = StockRecord>>(
+fn place<M: Memory<Value = StockRecord>>(
     rt: &LibcRuntime,
     book: &mut M,
     terms: Terms,
     order: Order,
 ) -> io::Result<()> {
-    println!(
+    print!(
         rt,
-        "Order: {} copies of {} pages on paper {}",
-        order.copies, order.pages, order.paper
+        "A choir orders {} copies of a score of {} pages, ",
+        order.copies, order.pages
     )?;
+    println!(rt, "on paper {}.", order.paper)?;
     match promise(book, order, terms) {
         Ok(quote) => print_quote(rt, quote),
         Err(fault) => print_fault(rt, fault),
@@ -130,7 +122,7 @@ fn order<M: Memory<Value = StockRecord>>(
 fn print_quote(rt: &LibcRuntime, quote: Quote) -> io::Result<()> {
     println!(
         rt,
-        "  sheets   {} needed and {} for wastage, promised",
+        "  sheets    {} needed, {} more for wastage: promised",
         quote.needed, quote.spoilt
     )?;
     print_price(rt, "paper   ", quote.paper)?;
@@ -138,26 +130,26 @@ fn print_quote(rt: &LibcRuntime, quote: Quote) -> io::Result<()> {
     print_price(rt, "discount", quote.discount)?;
     println!(
         rt,
-        "  to pay   {}.{:02}",
+        "  to pay    {}.{:02}",
         quote.cents / 100,
         quote.cents % 100
     )
 }
 
-// A price is kept in hundredths of a cent.
+// Prices are in hundredths of a cent.
 fn print_price(rt: &LibcRuntime, what: &str, price: u64) -> io::Result<()> {
-    println!(rt, "  {what} {}.{:04}", price / 10_000, price % 10_000)
+    println!(rt, "  {what}  {}.{:04}", price / 10_000, price % 10_000)
 }
 
 fn print_fault(rt: &LibcRuntime, fault: OrderFault) -> io::Result<()> {
     let reason = match fault {
         OrderFault::NoPaper(_) => "the book has no such paper",
-        OrderFault::NoStock(_) => "not enough sheets are free",
+        OrderFault::NoStock(_) => "not enough sheets are left to promise",
     };
     let refusal = fault.refusal();
     println!(
         rt,
-        "  refused  {} {}: {reason}; nothing was promised",
+        "  refused   {} {}: {reason}; nothing changed",
         refusal.number, refusal.detail
     )
 }

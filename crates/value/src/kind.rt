@@ -5,7 +5,8 @@ ghost use Prim.Native.Nat.{ℕ, _<_, _≤_, _^_};
 ghost use lib.ListN.{length};
 ghost use Rattle.std.specs.Finite.{nth};
 ghost use Rattle.std.specs.declared.option.Option.{Option};
-ghost use Rattle.std.specs.declared.option.Option.the-variants.{Some};
+ghost use Rattle.std.specs.declared.option.Option.the-variants.{Some, None};
+ghost use Rattle.std.specs.Options.{Cases};
 ghost use Rattle.value.specs.Kind.{built, Each-below};
 use crate::fault::ValueFault;
 
@@ -55,4 +56,30 @@ pub trait Kind: Copy {
     // The value with these parts, or a refusal with how many they were.
     fn build(given: &[u64]) -> Result<Self, ValueFault>
         ensures { λ r. ⌜ r ≡ built (value (now (given .entry))) (length (now (given .entry))) ⌝ };
+}
+
+#[cfg(test)]
+mod tests {
+    use super::*;
+    use crate::number::NumberKind;
+    use crate::stock_record::StockRecordKind;
+    use std::test::*;
+
+    // Builds a value and gives one of its parts. That it is the part given follows for every kind from
+    // the laws alone.
+    fn part_back<K: Kind>(given: &[u64], index: usize) -> Option<u64>
+        ensures { λ r. ⌜ Cases (K·Kind .value (now (given .entry))) (r ≡ None) (λ _. r ≡ nth (now (given .entry)) index) ⌝ }
+    {
+        match K::build(given) {
+            Ok(value) => value.part(index),
+            Err(_) => None,
+        }
+    }
+
+    #[test]
+    fn parts_of_a_built_value_are_those_given() -> Result<(), Fail> {
+        check_eq(part_back::<NumberKind>(&[77], 0), Some(77))?;
+        check_eq(part_back::<StockRecordKind>(&[9, 8, 7], 1), Some(8))?;
+        check_eq(part_back::<StockRecordKind>(&[8, 9, 7], 1), None)
+    }
 }

@@ -40,3 +40,20 @@ pub impl Kind for Number as NumberKind {
         }
     }
 }
+
+#[cfg(test)]
+mod tests {
+    use super::*;
+    use crate::fault::ValueFaultDebug;
+    use crate::fault::ValueFaultPartialEq;
+    use std::test::*;
+
+    #[test]
+    fn one_part_of_64_bits_builds() -> Result<(), Fail> {
+        let number = Number::build(&[u64::MAX])?;
+        check_eq(number.part(0), Some(u64::MAX))?;
+        check_eq(number.part(1), None)?;
+        check_eq(Number::build(&[]), Err(ValueFault::NoValue(0)))?;
+        check_eq(Number::build(&[1, 2]), Err(ValueFault::NoValue(2)))
+    }
+}

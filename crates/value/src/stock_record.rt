@@ -86,3 +86,48 @@ pub impl Kind for StockRecord as StockRecordKind {
         })
     }
 }
+
+#[cfg(test)]
+mod tests {
+    use super::*;
+    use crate::fault::ValueFaultDebug;
+    use crate::fault::ValueFaultPartialEq;
+    use refusal::layer::Layer;
+    use refusal::layer::LayerDebug;
+    use refusal::layer::LayerPartialEq;
+    use refusal::refusal::Refusal;
+    use refusal::refusal::RefusalDebug;
+    use refusal::refusal::RefusalPartialEq;
+    use std::test::*;
+
+    #[test]
+    fn promised_is_at_most_on_hand() -> Result<(), Fail> {
+        let full = StockRecord::build(&[5, 5, 0])?;
+        check_eq(full.part(1), Some(5))?;
+        check_eq(full.part(3), None)?;
+        check_eq(StockRecord::build(&[5, 6, 0]), Err(ValueFault::NoValue(3)))
+    }
+
+    #[test]
+    fn wide_parts_and_other_counts_are_refused() -> Result<(), Fail> {
+        check(StockRecord::build(&[4_294_967_295, 0, 4_294_967_295]).is_ok())?;
+        check(StockRecord::build(&[4_294_967_296, 0, 0]).is_err())?;
+        check(StockRecord::build(&[5, 4_294_967_296, 0]).is_err())?;
+        check(StockRecord::build(&[5, 5, 4_294_967_296]).is_err())?;
+        check_eq(StockRecord::build(&[5, 5]), Err(ValueFault::NoValue(2)))?;
+        check_eq(
+            StockRecord::build(&[5, 5, 0, 0]),
+            Err(ValueFault::NoValue(4)),
+        )
+    }
+
+    #[test]
+    fn a_refusal_tells_number_detail_and_layer() -> Result<(), Fail> {
+        let told = Refusal {
+            number: 6,
+            detail: 4,
+            layer: Layer::Data,
+        };
+        check_eq(ValueFault::NoValue(4).refusal(), told)
+    }
+}

@@ -19,6 +19,6 @@ returns g c =
     let enough = found _ _ y (c .in-Continue-more .ensures tt) in
     let after = c .store .ensures .after in
     record {
-      placed = placed-done cells o t x y q at (c .price .ensures) (c .estimate-quote .ensures) enough after;
+      placed = placed-done cells o t x y q at (c .price .ensures) (c .estimate-quote .ensures .figures) enough after;
       backed = backed-after cells (o .paper) x y _ enough after;
     }

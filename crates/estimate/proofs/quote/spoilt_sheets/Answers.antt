@@ -13,6 +13,5 @@ returns c =
     = ap (λ p. c .args .needed * p) (c .value .ensures .told) in
     record {
       value = ap (λ n. (n + 99) / 100) same;
-      least = (omega arith, λ m enough. omega arith);
       bound = share-up-le (c .args .needed) (c .value .result) (c .value .ensures .most);
     }
