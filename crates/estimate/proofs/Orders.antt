@@ -18,12 +18,13 @@ use Rattle.memory.specs.Cells.{stored}
 use Rattle.memory.specs.declared.fault.MemoryFault.{MemoryFault}
 use Rattle.memory.proofs.Places.{stored-within}
 use Rattle.value.specs.declared.stock_record.StockRecord.{StockRecord}
+use Rattle.value.specs.Kind.{widest}
 use Rattle.value.specs.StockRecord.{sound-stock}
 use Rattle.estimate.specs.declared.order.Order.{Order}
 use Rattle.estimate.specs.declared.order.Terms.{Terms}
 use Rattle.estimate.specs.declared.quote.Quote.{Quote}
 use Rattle.estimate.specs.Quote.{quoted}
-use Rattle.estimate.specs.Book.{more-promised, settled, placed-at, placed, Backed}
+use Rattle.estimate.specs.Book.{sheets, more-promised, settled, placed-at, placed, Backed}
 
 -- where something is there instead of a refusal, it is what was looked for
 pub found : {A E : Type 0} (o : Option A) (e : E) (x : A) → Ok x ≡ okOr o e → o ≡ Some x
@@ -33,11 +34,11 @@ found (Some y) e x was = cc
 -- an order whose paper is x, whose figures are q, and whose new record is y
 module _ (cells : List StockRecord) (o : Order) (t : Terms) (x y : StockRecord) (q : Quote)
     (at : nth cells (o .paper) ≡ Some x) {price : ℕ} (read : price ≡ x .price) (figures : q ≡ quoted o t price)
-    (enough : more-promised x (q .needed + q .spoilt) ≡ Some y) where
+    (enough : more-promised x (sheets q) ≡ Some y) where
   pub placed-done : {left : List StockRecord} → left ≡ set cells (o .paper) y → (Ok q, left) ≡ placed cells o t
   placed-done after = ap (λ (l : List StockRecord). (Ok q, l)) after
       ∙ sym (ap (placed-at cells o t) at
-      ∙ ap (λ z. settled cells (o .paper) z (more-promised x (z .needed + z .spoilt))) (sym (figures ∙ ap (quoted o t) read))
+      ∙ ap (λ z. settled cells (o .paper) z (more-promised x (sheets z))) (sym (figures ∙ ap (quoted o t) read))
       ∙ ap (settled cells (o .paper) q) enough)
 
 -- where a test chose something, it passed
@@ -50,9 +51,10 @@ more-backed : (x y : StockRecord) (n : ℕ) → more-promised x n ≡ Some y →
 more-backed x y n built =
     let hand = x .«on_hand» in
     let held = x .promised + n in
-    let taken = chosen (sound-stock hand held (x .price)) (record { «on_hand» = hand; promised = held; price = x .price }) y built in
-    let bounds = and-parts (leb hand 4294967295 && leb held hand) (leb (x .price) 4294967295) (taken .0) in
-    let fits = and-parts (leb hand 4294967295) (leb held hand) (bounds .0) in
+    let more : StockRecord = record { «on_hand» = hand; promised = held; price = x .price } in
+    let taken = chosen (sound-stock hand held (x .price)) more y built in
+    let bounds = and-parts (leb hand (widest 32) && leb held hand) (leb (x .price) (widest 32)) (taken .0) in
+    let fits = and-parts (leb hand (widest 32)) (leb held hand) (bounds .0) in
     subst (λ (z : StockRecord). z .promised ≤ z .«on_hand») (taken .1) (leb-true held hand (fits .1))
 
 -- a book stays backed with one backed record in place of another

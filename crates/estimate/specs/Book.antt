@@ -1,7 +1,8 @@
 -- What an order does to the price book. Assumes nothing.
---   more-promised x n     the record x with n sheets more promised, where it has them
---   placed cells o t      the order's answer, and the cells it leaves
---   Backed cells          no paper is promised beyond what is on hand
+--   sheets q            all sheets of a quote
+--   more-promised x n   the record x with n sheets more promised, where it has them
+--   placed cells o t    the order's answer, and the cells it leaves
+--   Backed cells        no paper is promised beyond what is on hand
 use mathlib.Core.List.{List, [], _∷_}
 use Prim.Native.Nat.{ℕ, _+_, _≤_}
 use lib.ListN.{set}
@@ -21,23 +22,31 @@ use Rattle.estimate.specs.declared.order.Terms.{Terms}
 use Rattle.estimate.specs.declared.quote.Quote.{Quote}
 use Rattle.estimate.specs.Quote.{quoted}
 
+-- all sheets of a quote
+abbrev pub sheets : Quote → ℕ
+sheets q = q .needed + q .spoilt
+
 -- the record with so many sheets more promised, where there is one
 abbrev pub more-promised : StockRecord → ℕ → Option StockRecord
-more-promised x sheets = stock-of (x .«on_hand» ∷ (x .promised + sheets) ∷ x .price ∷ [])
+more-promised x n = stock-of (x .«on_hand» ∷ (x .promised + n) ∷ x .price ∷ [])
 
--- the answer and the cells, once the figures and the new record are known
-abbrev pub settled : List StockRecord → ℕ → Quote → Option StockRecord → Result Quote OrderFault × List StockRecord
+-- what an order answers, and the cells that it leaves
+abbrev pub Outcome : Type 0
+Outcome = Result Quote OrderFault × List StockRecord
+
+-- once the figures and the new record are known: the record is stored, or nothing changes
+abbrev pub settled : List StockRecord → ℕ → Quote → Option StockRecord → Outcome
 settled cells place quote None = (Err (NoStock (NoValue 3)), cells)
 settled cells place quote (Some y) = (Ok quote, set cells place y)
 
--- the answer and the cells, once the paper's record is known
-abbrev pub placed-at : List StockRecord → Order → Terms → Option StockRecord → Result Quote OrderFault × List StockRecord
+-- once the paper's record is known: quoted at its price, or there is no such paper
+abbrev pub placed-at : List StockRecord → Order → Terms → Option StockRecord → Outcome
 placed-at cells o t None = (Err (NoPaper (PastEnd (o .paper))), cells)
 placed-at cells o t (Some x) =
-    settled cells (o .paper) (quoted o t (x .price)) (more-promised x (quoted o t (x .price) .needed + quoted o t (x .price) .spoilt))
+    settled cells (o .paper) (quoted o t (x .price)) (more-promised x (sheets (quoted o t (x .price))))
 
 -- an order is quoted at the price in the book, and its sheets are promised there; or nothing changes
-abbrev pub placed : List StockRecord → Order → Terms → Result Quote OrderFault × List StockRecord
+abbrev pub placed : List StockRecord → Order → Terms → Outcome
 placed cells o t = placed-at cells o t (nth cells (o .paper))
 
 -- no paper is promised beyond what is on hand

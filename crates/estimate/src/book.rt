@@ -1,9 +1,8 @@
 // Orders against the price book, a memory of stock records.
 ghost use mathlib.Core.Path.{_≡_};
-ghost use Prim.Native.Nat.{_+_};
 ghost use Rattle.std.specs.Options.{okOr};
 ghost use Rattle.value.specs.declared.fault.ValueFault.the-variants.{NoValue};
-ghost use Rattle.estimate.specs.Book.{placed, more-promised, Backed};
+ghost use Rattle.estimate.specs.Book.{placed, sheets, more-promised, Backed};
 use crate::fault::OrderFault;
 use crate::fault::OrderFromMemory;
 use crate::fault::OrderFromValue;
@@ -24,8 +23,12 @@ pub fn promise<M: Memory<Value = StockRecord>>(
     order: Order,
     terms: Terms,
 ) -> Result<Quote, OrderFault>
-    ensures placed { λ r. ⌜ (r, M·Memory .cells (now (book .exit))) ≡ placed (M·Memory .cells (now (book .entry))) order terms ⌝ }
-    ensures backed { λ _. ⌜ (Backed (M·Memory .cells (now (book .entry))) → Backed (M·Memory .cells (now (book .exit)))) ⌝ }
+    ensures placed { λ r. ⌜
+        (r, M·Memory .cells (now (book .exit))) ≡ placed (M·Memory .cells (now (book .entry))) order terms
+        ⌝ }
+    ensures backed { λ _. ⌜
+        (Backed (M·Memory .cells (now (book .entry))) → Backed (M·Memory .cells (now (book .exit))))
+        ⌝ }
 {
     let paper = book.load(order.paper)?;
     let quote = estimate(order, terms, paper.price());
@@ -36,7 +39,7 @@ pub fn promise<M: Memory<Value = StockRecord>>(
 
 // The record with the quote's sheets promised too.
 fn with_promised(paper: StockRecord, quote: Quote) -> Result<StockRecord, ValueFault>
-    ensures { λ r. ⌜ r ≡ okOr (more-promised paper (quote .needed + quote .spoilt)) (NoValue 3) ⌝ }
+    ensures { λ r. ⌜ r ≡ okOr (more-promised paper (sheets quote)) (NoValue 3) ⌝ }
 {
     let promised = paper.promised() as u64 + quote.needed as u64 + quote.spoilt as u64;
     StockRecord::build(&[paper.on_hand() as u64, promised, paper.price() as u64])

@@ -1,6 +1,6 @@
 -- What the starts of a lawful list give: the check of neighbours as a loop, and the last start not above
 -- a place. The proofs of `object_map` cite these.
-use mathlib.Core.Path.{_≡_, refl, sym, ap, _∙_}
+use mathlib.Core.Path.{_≡_, refl, sym, ap, subst, _∙_}
 use mathlib.Core.Bool.{true, false, cond, _&&_}
 use mathlib.Core.List.{List, [], _∷_}
 use Prim.Native.Nat.{ℕ, zero, suc, _+_, _-_, _<_, _≤_}
@@ -14,7 +14,8 @@ use borrow.Author.Needs.{needs}
 use Rattle.std.specs.Places.{Located}
 use Rattle.std.specs.shelf.Sorted.{unsigned}
 use Rattle.std.specs.declared.result.Result.the-variants.{Ok, Err}
-use Rattle.std.proofs.shelf.Tests.{ltb-true, leb-true, eqb-true, lt-ltb, le-ltb, le-leb, lt-leb, and-parts, cases-lt, cases-bool, false≢true}
+use Rattle.std.proofs.shelf.Tests.{ltb-true, leb-true, eqb-true, lt-ltb, le-ltb, le-leb, lt-leb}
+use Rattle.std.proofs.shelf.Tests.{and-parts, cases-lt, cases-bool, false≢true}
 use Rattle.std.proofs.shelf.Sorted.{searched}
 use Rattle.locks.specs.ObjectMap.{rising, lawful, object-locks, begun, object-guard, Last-start}
 
@@ -129,7 +130,7 @@ module _ (xs : List ℕ) (p i : ℕ) (fit : lawful xs ≡ true) where
   rises : (i j : ℕ) → i ≤ j → j < length xs → getD xs i 0 ≤ getD xs j 0
   rises = rising-le xs (lawful-parts xs fit .up)
 
-  pub last-found : Located (λ y. unsigned .cmp y p) xs (Ok i) → Last-start xs p i
+  last-found : Located (λ y. unsigned .cmp y p) xs (Ok i) → Last-start xs p i
   last-found located =
       let at = searched xs p (Ok i) located rises in
       record {
@@ -138,6 +139,13 @@ module _ (xs : List ℕ) (p i : ℕ) (fit : lawful xs ≡ true) where
         later = λ k after within. omega (arith, at .1, rising-apart xs (lawful-parts xs fit .up) i k after within);
       }
 
+  -- at a start that is the place itself
+  pub up-to-found : Located (λ y. unsigned .cmp y p) xs (Ok i) → Last-start xs p (i + 1 - 1)
+  up-to-found located =
+      let back : i ≡ i + 1 - 1 = omega arith in
+      subst (Last-start xs p) back (last-found located)
+
+  -- at the gap where it would stand, there is a start before it
   pub some-before : Located (λ y. unsigned .cmp y p) xs (Err i) → 1 ≤ i
   some-before located =
       let at = searched xs p (Err i) located rises in
@@ -147,8 +155,8 @@ module _ (xs : List ℕ) (p i : ℕ) (fit : lawful xs ≡ true) where
       absurd (omega (arith, fine .from-zero)))
       (λ some. some) (cases-lt i 1)
 
-  pub last-before : Located (λ y. unsigned .cmp y p) xs (Err i) → Last-start xs p (i - 1)
-  last-before located =
+  pub up-to-gap : Located (λ y. unsigned .cmp y p) xs (Err i) → Last-start xs p (i - 1)
+  up-to-gap located =
       let at = searched xs p (Err i) located rises in
       let some = some-before located in
       let first : i - 1 < i = omega arith in

@@ -3,7 +3,7 @@
 ghost use mathlib.Core.Path.{_≡_};
 ghost use mathlib.Core.Bool.{true};
 ghost use denote.Ref.{now as behind};
-ghost use Prim.Native.Nat.{_<_, _≤_};
+ghost use Prim.Native.Nat.{_-_, _<_, _≤_};
 ghost use Rattle.locks.specs.ObjectMap.{object-locks, object-guard, lawful, rising, Last-start};
 use crate::lock_map::LockMap;
 
@@ -43,13 +43,17 @@ pub impl<'a> LockMap for ObjectMap<'a> as ObjectMapLocks {
     // With locks to count, the index of the last start not above the place.
     fn lock(&self, place: u32) -> u32
         ensures told { λ r. ⌜ r ≡ object-guard (now (now (self .entry) .starts)) place ⌝ }
-        ensures below { λ r. ⌜ (0 < object-locks (now (now (self .entry) .starts)) → r < object-locks (now (now (self .entry) .starts))) ⌝ }
-        ensures last { λ r. ⌜ (0 < object-locks (now (now (self .entry) .starts)) → Last-start (now (now (self .entry) .starts)) place r) ⌝ }
+        ensures below { λ r. ⌜
+            (0 < object-locks (now (now (self .entry) .starts)) → r < object-locks (now (now (self .entry) .starts)))
+            ⌝ }
+        ensures last { λ r. ⌜
+            (0 < object-locks (now (now (self .entry) .starts)) → Last-start (now (now (self .entry) .starts)) place r)
+            ⌝ }
     {
         if self.locks == 0 {
             return 0;
         }
-        last_start(self.starts, place)
+        starts_up_to(self.starts, place) - 1
     }
 }
 
@@ -74,14 +78,15 @@ fn rises(starts: &[u32]) -> bool
     true
 }
 
-// The index of the last start not above the place.
-fn last_start(starts: &[u32], place: u32) -> u32
+// How many starts are not above the place. The first is 0, so there is one at least.
+fn starts_up_to(starts: &[u32], place: u32) -> u32
     requires { ⌜ lawful (now starts) ≡ true ⌝ }
-    ensures { λ r. ⌜ Last-start (now (starts .entry)) place r ⌝ }
+    ensures some { λ r. ⌜ 1 ≤ r ⌝ }
+    ensures last { λ r. ⌜ Last-start (now (starts .entry)) place (r - 1) ⌝ }
 {
     match starts.binary_search(&place) {
-        Ok(i) => i as u32,
-        Err(i) => i as u32 - 1,
+        Ok(i) => i as u32 + 1,
+        Err(i) => i as u32,
     }
 }
 

@@ -83,10 +83,12 @@ module _ {V : Type 0} (n : ℕ) (cells : List V) (p i : ℕ) (here : Here (take 
   stored-here = sym (stored-within (take n cells) p (here .1))
 
   pub set-here : (v : V) (after : List V) → after ≡ set cells i v → take n after ≡ set (take n cells) p v
-  set-here v after done = ap (take n) (done ∙ ap (λ k. set cells k v) (here .0)) ∙ take-set-lt n cells p v below-first
+  set-here v after done =
+      ap (take n) (done ∙ ap (λ k. set cells k v) (here .0)) ∙ take-set-lt n cells p v below-first
 
   pub beyond-here : (v : V) (after : List V) → after ≡ set cells i v → drop n after ≡ drop n cells
-  beyond-here v after done = ap (drop n) (done ∙ ap (λ k. set cells k v) (here .0)) ∙ drop-set-lt n cells p v below-first
+  beyond-here v after done =
+      ap (drop n) (done ∙ ap (λ k. set cells k v) (here .0)) ∙ drop-set-lt n cells p v below-first
 
 -- The cells ys behind the cells xs, n of them at most, at a place p that they have.
 module _ {V : Type 0} (n : ℕ) (xs ys : List V) (p : ℕ) (within : p < length (take n (xs ++ ys))) where
@@ -121,14 +123,35 @@ module _ {V : Type 0} (n : ℕ) (xs ys : List V) (p : ℕ) (within : p < length 
   stored-second {i = i} done right = done ∙ stored-within ys i (omega (arith, right .0, in-second (right .1)))
       ∙ sym (stored-within (take n (xs ++ ys)) p within)
 
+  both-first : (v : V) {zs : List V} {i : ℕ} → zs ≡ set xs i v → Inside xs p (First i)
+      → zs ++ ys ≡ set (xs ++ ys) p v
+  both-first v done left =
+      ap (λ l. l ++ ys) (done ∙ ap (λ i. set xs i v) (left .0)) ∙ sym (set-append-left xs ys p v (left .1))
+
+  both-second : (v : V) {zs : List V} {i : ℕ} → zs ≡ set ys i v → Inside xs p (Second i)
+      → xs ++ zs ≡ set (xs ++ ys) p v
+  both-second v done right =
+      ap (λ l. xs ++ l) (done ∙ ap (λ i. set ys i v) (right .0))
+      ∙ sym (set-append-right xs ys (length xs) p v refl (right .1))
+
+  counted-set : (v : V) (zs : List V) → zs ≡ set (xs ++ ys) p v → take n zs ≡ set (take n (xs ++ ys)) p v
+  counted-set v zs done = ap (take n) done ∙ take-set-lt n (xs ++ ys) p v below
+
+  beyond-set : (v : V) (zs : List V) → zs ≡ set (xs ++ ys) p v → drop n zs ≡ drop n (xs ++ ys)
+  beyond-set v zs done = ap (drop n) done ∙ drop-set-lt n (xs ++ ys) p v below
+
   pub set-first : (v : V) {zs : List V} {i : ℕ} → zs ≡ set xs i v → Inside xs p (First i)
       → take n (zs ++ ys) ≡ set (take n (xs ++ ys)) p v
-  set-first v done left =
-      ap (λ l. take n (l ++ ys)) (done ∙ ap (λ i. set xs i v) (left .0))
-      ∙ ap (take n) (sym (set-append-left xs ys p v (left .1))) ∙ take-set-lt n (xs ++ ys) p v below
+  set-first v {zs} done left = counted-set v (zs ++ ys) (both-first v done left)
 
   pub set-second : (v : V) {zs : List V} {i : ℕ} → zs ≡ set ys i v → Inside xs p (Second i)
       → take n (xs ++ zs) ≡ set (take n (xs ++ ys)) p v
-  set-second v done right =
-      ap (λ l. take n (xs ++ l)) (done ∙ ap (λ i. set ys i v) (right .0))
-      ∙ ap (take n) (sym (set-append-right xs ys (length xs) p v refl (right .1))) ∙ take-set-lt n (xs ++ ys) p v below
+  set-second v {zs} done right = counted-set v (xs ++ zs) (both-second v done right)
+
+  pub rest-first : (v : V) {zs : List V} {i : ℕ} → zs ≡ set xs i v → Inside xs p (First i)
+      → drop n (zs ++ ys) ≡ drop n (xs ++ ys)
+  rest-first v {zs} done left = beyond-set v (zs ++ ys) (both-first v done left)
+
+  pub rest-second : (v : V) {zs : List V} {i : ℕ} → zs ≡ set ys i v → Inside xs p (Second i)
+      → drop n (xs ++ zs) ≡ drop n (xs ++ ys)
+  rest-second v {zs} done right = beyond-set v (xs ++ zs) (both-second v done right)

@@ -1,11 +1,16 @@
 -- How a memory finds the cell at a place. Assumes nothing.
---   Past cs p fault        there is no cell p, and the fault says so
---   Here cs p i            there is a cell p, at index i
---   Lies xs ys cs p half   there is a cell p of cs, and it is this one of xs or of ys behind them
+--   Past cs p fault    there is no cell p, and the fault says so
+--   Here cs p i        there is a cell p, at index i
+--   Indexed cs p r     the answer r of a search for p among the cells that a memory over cs counts
+--   Inside xs p half   p is this place of xs, or of what stands behind them
+--   Located xs ys p r  the answer r of a search for p among the cells xs with ys behind them
 use mathlib.Core.Path.{_≡_}
-use mathlib.Core.List.{List}
+use mathlib.Core.List.{List, _++_}
 use Prim.Native.Nat.{ℕ, _-_, _<_, _≤_}
 use lib.ListN.{length}
+use Rattle.std.specs.Results.{Cases}
+use Rattle.std.specs.declared.result.Result.{Result}
+use Rattle.memory.specs.Cells.{counted}
 use Rattle.memory.specs.declared.fault.MemoryFault.{MemoryFault}
 use Rattle.memory.specs.declared.fault.MemoryFault.the-variants.{PastEnd}
 use Rattle.memory.specs.declared.joined.Half.{Half}
@@ -20,11 +25,16 @@ module _ {V : Type 0} where
   abbrev pub Here : List V → ℕ → ℕ → Type 0
   Here cells place index = (index ≡ place) × (place < length cells)
 
-  -- the place, or what is left of it behind the first cells
+  -- the index of a cell that the memory counts, or a refusal
+  abbrev pub Indexed : List V → ℕ → Result ℕ MemoryFault → Type 0
+  Indexed cells place r = Cases r (Here (counted cells) place) (Past (counted cells) place)
+
+  -- the place itself, or what is left of it behind the first cells
   abbrev pub Inside : List V → ℕ → Half → Type 0
   Inside xs place (First inner) = (inner ≡ place) × (place < length xs)
   Inside xs place (Second inner) = (inner ≡ place - length xs) × (length xs ≤ place)
 
-  -- the place lies below the count of all cells, inside these
-  abbrev pub Lies : List V → List V → ℕ → Half → Type 0
-  Lies xs cells place half = (place < length cells) × Inside xs place half
+  -- where among both a cell lies that the joined memory counts, or a refusal
+  abbrev pub Located : List V → List V → ℕ → Result Half MemoryFault → Type 0
+  Located xs ys place r =
+      Cases r (λ half. (place < length (counted (xs ++ ys))) × Inside xs place half) (Past (counted (xs ++ ys)) place)

@@ -3,12 +3,11 @@
 ghost use mathlib.Core.Path.{_≡_};
 ghost use Prim.Native.Nat.{_<_};
 ghost use denote.Ref.{now, name};
-ghost use lib.ListN.{length, set, take, drop};
+ghost use lib.ListN.{length, set};
 ghost use Rattle.std.specs.Finite.{nth};
-ghost use Rattle.std.specs.Results.{Cases};
 ghost use Rattle.std.specs.declared.option.Option.the-variants.{Some};
-ghost use Rattle.memory.specs.Cells.{most-cells, stored};
-ghost use Rattle.memory.specs.Places.{Here, Past};
+ghost use Rattle.memory.specs.Cells.{counted, beyond, stored};
+ghost use Rattle.memory.specs.Places.{Indexed};
 use crate::fault::MemoryFault;
 use crate::memory::MOST_CELLS;
 use crate::memory::Memory;
@@ -21,7 +20,7 @@ pub struct Flat<'a, V> {
 pub impl<'a, V: Copy> Memory for Flat<'a, V> as FlatMemory {
     type Value = V;
 
-    ghost cells = { λ m. take most-cells (now (m .cells)) };
+    ghost cells = { λ m. counted (now (m .cells)) };
 
     fn count(&self) -> u32 {
         self.cells.len().min(MOST_CELLS as usize) as u32
@@ -34,9 +33,11 @@ pub impl<'a, V: Copy> Memory for Flat<'a, V> as FlatMemory {
 
     // Cells past the count stay as they are, and the memory stays on the cells that it was lent.
     fn store(&mut self, place: u32, value: V) -> Result<(), MemoryFault>
-        ensures answer { λ r. ⌜ r ≡ stored (take most-cells (now (now (self .entry) .cells))) place ⌝ }
-        ensures after { λ _. ⌜ take most-cells (now (now (self .exit) .cells)) ≡ set (take most-cells (now (now (self .entry) .cells))) place value ⌝ }
-        ensures beyond { λ _. ⌜ drop most-cells (now (now (self .exit) .cells)) ≡ drop most-cells (now (now (self .entry) .cells)) ⌝ }
+        ensures answer { λ r. ⌜ r ≡ stored (counted (now (now (self .entry) .cells))) place ⌝ }
+        ensures after { λ _. ⌜
+            counted (now (now (self .exit) .cells)) ≡ set (counted (now (now (self .entry) .cells))) place value
+            ⌝ }
+        ensures rest { λ _. ⌜ beyond (now (now (self .exit) .cells)) ≡ beyond (now (now (self .entry) .cells)) ⌝ }
         ensures lender { λ _. ⌜ name (now (self .exit) .cells) ≡ name (now (self .entry) .cells) ⌝ }
     {
         let index = self.index_of(place)?;
@@ -48,7 +49,7 @@ pub impl<'a, V: Copy> Memory for Flat<'a, V> as FlatMemory {
 impl<'a, V: Copy> Flat<'a, V> {
     // The index of the cell at a place, refused at or past the count.
     fn index_of(&self, place: u32) -> Result<usize, MemoryFault>
-        ensures { λ r. ⌜ Cases r (Here (take most-cells (now (now (self .entry) .cells))) place) (Past (take most-cells (now (now (self .entry) .cells))) place) ⌝ }
+        ensures { λ r. ⌜ Indexed (now (now (self .entry) .cells)) place r ⌝ }
     {
         if place >= self.count() {
             return Err(MemoryFault::PastEnd(place));

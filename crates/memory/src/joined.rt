@@ -1,9 +1,9 @@
 // The joined memory: the cells of a second memory behind those of a first, up to 1,048,576 in all.
+ghost use mathlib.Core.Path.{_≡_};
 ghost use mathlib.Core.List.{_++_};
-ghost use lib.ListN.{take};
-ghost use Rattle.std.specs.Results.{Cases};
-ghost use Rattle.memory.specs.Cells.{most-cells};
-ghost use Rattle.memory.specs.Places.{Lies, Past};
+ghost use lib.ListN.{set};
+ghost use Rattle.memory.specs.Cells.{counted, beyond, stored};
+ghost use Rattle.memory.specs.Places.{Located};
 use crate::fault::MemoryFault;
 use crate::memory::MOST_CELLS;
 use crate::memory::Memory;
@@ -24,7 +24,7 @@ pub(crate) enum Half {
 pub impl<A: Memory, B: Memory<Value = A::Value>> Memory for Joined<A, B> as JoinedMemory {
     type Value = A::Value;
 
-    ghost cells = { λ m. take most-cells (A·Memory .cells (m .first) ++ B·Memory .cells (m .second)) };
+    ghost cells = { λ m. counted (A·Memory .cells (m .first) ++ B·Memory .cells (m .second)) };
 
     fn count(&self) -> u32 {
         (self.first.count() + self.second.count()).min(MOST_CELLS)
@@ -37,7 +37,22 @@ pub impl<A: Memory, B: Memory<Value = A::Value>> Memory for Joined<A, B> as Join
         }
     }
 
-    fn store(&mut self, place: u32, value: A::Value) -> Result<(), MemoryFault> {
+    // Cells of the two memories past the count stay as they are.
+    fn store(&mut self, place: u32, value: A::Value) -> Result<(), MemoryFault>
+        ensures answer { λ r. ⌜
+            r ≡ stored (counted
+            (A·Memory .cells (now (self .entry) .first) ++ B·Memory .cells (now (self .entry) .second))) place
+            ⌝ }
+        ensures after { λ _. ⌜
+            counted (A·Memory .cells (now (self .exit) .first) ++ B·Memory .cells (now (self .exit) .second))
+            ≡ set (counted
+            (A·Memory .cells (now (self .entry) .first) ++ B·Memory .cells (now (self .entry) .second))) place value
+            ⌝ }
+        ensures rest { λ _. ⌜
+            beyond (A·Memory .cells (now (self .exit) .first) ++ B·Memory .cells (now (self .exit) .second))
+            ≡ beyond (A·Memory .cells (now (self .entry) .first) ++ B·Memory .cells (now (self .entry) .second))
+            ⌝ }
+    {
         match self.locate(place)? {
             Half::First(inner) => self.first.store(inner, value),
             Half::Second(inner) => self.second.store(inner, value),
@@ -48,7 +63,9 @@ pub impl<A: Memory, B: Memory<Value = A::Value>> Memory for Joined<A, B> as Join
 impl<A: Memory, B: Memory<Value = A::Value>> Joined<A, B> {
     // Where the cell at a place lies, refused at or past the count with the place that was asked for.
     fn locate(&self, place: u32) -> Result<Half, MemoryFault>
-        ensures { λ r. ⌜ Cases r (Lies (A·Memory .cells (now (self .entry) .first)) (take most-cells (A·Memory .cells (now (self .entry) .first) ++ B·Memory .cells (now (self .entry) .second))) place) (Past (take most-cells (A·Memory .cells (now (self .entry) .first) ++ B·Memory .cells (now (self .entry) .second))) place) ⌝ }
+        ensures { λ r. ⌜
+            Located (A·Memory .cells (now (self .entry) .first)) (B·Memory .cells (now (self .entry) .second)) place r
+            ⌝ }
     {
         if place >= self.count() {
             return Err(MemoryFault::PastEnd(place));

@@ -68,7 +68,9 @@ mod tests {
     // Builds a value and gives one of its parts. That it is the part given follows for every kind from
     // the laws alone.
     fn part_back<K: Kind>(given: &[u64], index: usize) -> Option<u64>
-        ensures { λ r. ⌜ Cases (K·Kind .value (now (given .entry))) (r ≡ None) (λ _. r ≡ nth (now (given .entry)) index) ⌝ }
+        ensures { λ r. ⌜
+            Cases (K·Kind .value (now (given .entry))) (r ≡ None) (λ _. r ≡ nth (now (given .entry)) index)
+            ⌝ }
     {
         match K::build(given) {
             Ok(value) => value.part(index),

@@ -9,7 +9,8 @@ use Rattle.locks.proofs.object_map.rises.Needs as need
 pub returns-then-starts-i : need.returns-then-starts-i
 returns-then-starts-i c =
     let xs = c .args .starts .now in
-    sym (rising-stops xs (c .loop-i .i) (c .loop-i .kept .i) (c .loop-i-test .taken) (c .if-starts-i .taken)) ∙ c .loop-i .inv
+    let i = c .loop-i .i in
+    sym (rising-stops xs i (c .loop-i .kept .i) (c .loop-i-test .taken) (c .if-starts-i .taken)) ∙ c .loop-i .inv
 
 pub loop-i-again : need.loop-i-again
 loop-i-again c =

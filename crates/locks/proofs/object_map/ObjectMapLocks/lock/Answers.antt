@@ -17,8 +17,8 @@ returns-then-self-eq0 c =
       last = λ some. absurd (omega (arith, none, some));
     }
 
-pub last-start-requires : need.last-start-requires
-last-start-requires c κs =
+pub starts-up-to-requires : need.starts-up-to-requires
+starts-up-to-requires c κs =
     counts-lawful (c .args .self .now .starts .now) (λ none. c .if-self-eq0 .left (c .args .self .now .counted ∙ none))
 
 pub returns : need.returns
@@ -26,7 +26,7 @@ returns c =
     let xs = c .args .self .now .starts .now in
     let fit : lawful xs ≡ true = counts-lawful xs (λ none. c .if-self-eq0 .left (c .args .self .now .counted ∙ none)) in
     record {
-      told = guarded xs (c .args .place) _ fit (c .last-start .ensures);
-      below = λ some. omega (arith, c .last-start .ensures .within, ap (λ b. cond b (length xs) 0) fit);
-      last = λ some. c .last-start .ensures;
+      told = guarded xs (c .args .place) _ fit (c .starts-up-to .ensures .last);
+      below = λ some. omega (arith, c .starts-up-to .ensures .last .within, ap (λ b. cond b (length xs) 0) fit);
+      last = λ some. c .starts-up-to .ensures .last;
     }

@@ -1,13 +1,13 @@
-use lib.ListN.{take}
 use Rattle.std.proofs.shelf.Results.{err-from-errBy}
-use Rattle.memory.specs.Cells.{most-cells}
+use Rattle.memory.specs.Cells.{most-cells, counted}
 use Rattle.memory.proofs.Places.{refused-load, index-within, loaded-here}
 use Rattle.memory.proofs.flat.FlatMemory.load.Needs as need
 
 pub returns-in-Break-index : need.returns-in-Break-index
 returns-in-Break-index g c =
     let p = err-from-errBy (c .from-residual .result) (c .from-residual .ensures .1) in
-    refused-load (take most-cells (c .args .self .now .cells .now)) (c .args .place) (p .1) (p .2) (c .in-Break-index .ensures tt)
+    let past = c .in-Break-index .ensures tt in
+    refused-load (counted (c .args .self .now .cells .now)) (c .args .place) (p .1) (p .2) past
 
 pub read-requires : need.read-requires
 read-requires g c κs =

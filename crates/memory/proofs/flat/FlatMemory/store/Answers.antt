@@ -1,7 +1,6 @@
 use mathlib.Core.Path.{refl}
-use lib.ListN.{take}
 use Rattle.std.proofs.shelf.Results.{err-from-errBy}
-use Rattle.memory.specs.Cells.{most-cells}
+use Rattle.memory.specs.Cells.{most-cells, counted}
 use Rattle.memory.proofs.Places.{refused-store, unchanged-past, index-within, stored-here, set-here, beyond-here}
 use Rattle.memory.proofs.flat.FlatMemory.store.Needs as need
 
@@ -10,9 +9,9 @@ returns-in-Break-index g c =
     let p = err-from-errBy (c .from-residual .result) (c .from-residual .ensures .1) in
     let past = c .in-Break-index .ensures tt in
     record {
-      answer = refused-store (take most-cells (c .args .self .now .cells .now)) (c .args .place) (p .1) (p .2) past;
-      after = unchanged-past (take most-cells (c .args .self .now .cells .now)) (c .args .place) (c .args .value) _ past;
-      beyond = refl;
+      answer = refused-store (counted (c .args .self .now .cells .now)) (c .args .place) (p .1) (p .2) past;
+      after = unchanged-past (counted (c .args .self .now .cells .now)) (c .args .place) (c .args .value) _ past;
+      rest = refl;
       lender = refl;
     }
 
@@ -27,6 +26,6 @@ returns g c =
     record {
       answer = stored-here most-cells (c .args .self .now .cells .now) (c .args .place) _ here;
       after = set-here most-cells (c .args .self .now .cells .now) (c .args .place) _ here (c .args .value) _ done;
-      beyond = beyond-here most-cells (c .args .self .now .cells .now) (c .args .place) _ here (c .args .value) _ done;
+      rest = beyond-here most-cells (c .args .self .now .cells .now) (c .args .place) _ here (c .args .value) _ done;
       lender = refl;
     }

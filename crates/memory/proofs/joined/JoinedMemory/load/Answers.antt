@@ -1,8 +1,7 @@
 use mathlib.Core.Path.{subst}
 use mathlib.Core.List.{_++_}
-use lib.ListN.{take}
 use Rattle.std.proofs.shelf.Results.{err-from-errBy}
-use Rattle.memory.specs.Cells.{most-cells}
+use Rattle.memory.specs.Cells.{most-cells, counted}
 use Rattle.memory.specs.Places.{Inside}
 use Rattle.memory.proofs.Places.{refused-load, loaded-first, loaded-second}
 use Rattle.memory.proofs.joined.JoinedMemory.load.Needs as need
@@ -12,7 +11,7 @@ returns-in-Break-inner g c =
     let xs = g .A·Memory .cells (c .args .self .now .first) in
     let ys = g .B·Memory .cells (c .args .self .now .second) in
     let p = err-from-errBy (c .from-residual .result) (c .from-residual .ensures .1) in
-    refused-load (take most-cells (xs ++ ys)) (c .args .place) (p .1) (p .2) (c .in-Break-inner .ensures tt)
+    refused-load (counted (xs ++ ys)) (c .args .place) (p .1) (p .2) (c .in-Break-inner .ensures tt)
 
 pub returns-in-First : need.returns-in-First
 returns-in-First g c =

@@ -1,10 +1,10 @@
-use mathlib.Core.Path.{subst}
+use mathlib.Core.Path.{refl, subst}
 use mathlib.Core.List.{_++_}
-use lib.ListN.{take}
 use Rattle.std.proofs.shelf.Results.{err-from-errBy}
-use Rattle.memory.specs.Cells.{most-cells}
+use Rattle.memory.specs.Cells.{most-cells, counted}
 use Rattle.memory.specs.Places.{Inside}
-use Rattle.memory.proofs.Places.{refused-store, unchanged-past, stored-first, stored-second, set-first, set-second}
+use Rattle.memory.proofs.Places.{refused-store, unchanged-past, stored-first, stored-second}
+use Rattle.memory.proofs.Places.{set-first, set-second, rest-first, rest-second}
 use Rattle.memory.proofs.joined.JoinedMemory.store.Needs as need
 
 pub returns-in-Break-inner : need.returns-in-Break-inner
@@ -14,8 +14,9 @@ returns-in-Break-inner g c =
     let p = err-from-errBy (c .from-residual .result) (c .from-residual .ensures .1) in
     let past = c .in-Break-inner .ensures tt in
     record {
-      answer = refused-store (take most-cells (xs ++ ys)) (c .args .place) (p .1) (p .2) past;
-      after = unchanged-past (take most-cells (xs ++ ys)) (c .args .place) (c .args .value) _ past;
+      answer = refused-store (counted (xs ++ ys)) (c .args .place) (p .1) (p .2) past;
+      after = unchanged-past (counted (xs ++ ys)) (c .args .place) (c .args .value) _ past;
+      rest = refl;
     }
 
 pub returns-in-First : need.returns-in-First
@@ -28,6 +29,7 @@ returns-in-First g c =
     record {
       answer = stored-first most-cells xs ys (c .args .place) (lies .0) (done .answer) left;
       after = set-first most-cells xs ys (c .args .place) (lies .0) (c .args .value) (done .after) left;
+      rest = rest-first most-cells xs ys (c .args .place) (lies .0) (c .args .value) (done .after) left;
     }
 
 pub returns-in-Second : need.returns-in-Second
@@ -40,4 +42,5 @@ returns-in-Second g c =
     record {
       answer = stored-second most-cells xs ys (c .args .place) (lies .0) (done .answer) right;
       after = set-second most-cells xs ys (c .args .place) (lies .0) (c .args .value) (done .after) right;
+      rest = rest-second most-cells xs ys (c .args .place) (lies .0) (c .args .value) (done .after) right;
     }
