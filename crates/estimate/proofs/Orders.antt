@@ -24,7 +24,7 @@ use Rattle.estimate.specs.declared.order.Order.{Order}
 use Rattle.estimate.specs.declared.order.Terms.{Terms}
 use Rattle.estimate.specs.declared.quote.Quote.{Quote}
 use Rattle.estimate.specs.Quote.{quoted}
-use Rattle.estimate.specs.Book.{sheets, more-promised, settled, placed-at, placed, Backed}
+use Rattle.estimate.specs.Book.{all-sheets, more-promised, settled, placed-at, placed, Backed}
 
 -- where something is there instead of a refusal, it is what was looked for
 pub found : {A E : Type 0} (o : Option A) (e : E) (x : A) → Ok x ≡ okOr o e → o ≡ Some x
@@ -34,11 +34,11 @@ found (Some y) e x was = cc
 -- an order whose paper is x, whose figures are q, and whose new record is y
 module _ (cells : List StockRecord) (o : Order) (t : Terms) (x y : StockRecord) (q : Quote)
     (at : nth cells (o .paper) ≡ Some x) {price : ℕ} (read : price ≡ x .price) (figures : q ≡ quoted o t price)
-    (enough : more-promised x (sheets q) ≡ Some y) where
+    (enough : more-promised x (all-sheets q) ≡ Some y) where
   pub placed-done : {left : List StockRecord} → left ≡ set cells (o .paper) y → (Ok q, left) ≡ placed cells o t
   placed-done after = ap (λ (l : List StockRecord). (Ok q, l)) after
       ∙ sym (ap (placed-at cells o t) at
-      ∙ ap (λ z. settled cells (o .paper) z (more-promised x (sheets z))) (sym (figures ∙ ap (quoted o t) read))
+      ∙ ap (λ z. settled cells (o .paper) z (more-promised x (all-sheets z))) (sym (figures ∙ ap (quoted o t) read))
       ∙ ap (settled cells (o .paper) q) enough)
 
 -- where a test chose something, it passed

@@ -1,5 +1,5 @@
 -- What an order does to the price book. Assumes nothing.
---   sheets q            all sheets of a quote
+--   all-sheets q        all sheets of a quote
 --   more-promised x n   the record x with n sheets more promised, where it has them
 --   placed cells o t    the order's answer, and the cells it leaves
 --   Backed cells        no paper is promised beyond what is on hand
@@ -23,8 +23,8 @@ use Rattle.estimate.specs.declared.quote.Quote.{Quote}
 use Rattle.estimate.specs.Quote.{quoted}
 
 -- all sheets of a quote
-abbrev pub sheets : Quote → ℕ
-sheets q = q .needed + q .spoilt
+abbrev pub all-sheets : Quote → ℕ
+all-sheets q = q .needed + q .spoilt
 
 -- the record with so many sheets more promised, where there is one
 abbrev pub more-promised : StockRecord → ℕ → Option StockRecord
@@ -43,7 +43,7 @@ settled cells place quote (Some y) = (Ok quote, set cells place y)
 abbrev pub placed-at : List StockRecord → Order → Terms → Option StockRecord → Outcome
 placed-at cells o t None = (Err (NoPaper (PastEnd (o .paper))), cells)
 placed-at cells o t (Some x) =
-    settled cells (o .paper) (quoted o t (x .price)) (more-promised x (sheets (quoted o t (x .price))))
+    settled cells (o .paper) (quoted o t (x .price)) (more-promised x (all-sheets (quoted o t (x .price))))
 
 -- an order is quoted at the price in the book, and its sheets are promised there; or nothing changes
 abbrev pub placed : List StockRecord → Order → Terms → Outcome

@@ -1,11 +1,12 @@
 -- What an order costs. Assumes nothing.
---   rounded-up a b        a / b, a part counted as a whole
---   needed o              sheets of four pages for all copies
---   spoilt o t            sheets more for wastage
---   gross o t price       price of all sheets and of folding those needed
---   taken-off o t price   the discount of a large order
---   quoted o t price      all figures
---   Fair o t q            what a customer and the shop may hold a quote to
+--   rounded-up a b            a / b, a part counted as a whole
+--   sheets-needed o           sheets of four pages for all copies
+--   sheets-spoilt o t         sheets more for wastage
+--   paper-price o t price     all these sheets
+--   folding-price o t         folding of those needed
+--   discount-on o t price     what is taken off a large order
+--   quoted o t price          all figures
+--   Fair o t q                what a customer and the shop may hold a quote to
 use mathlib.Core.Bool.{cond}
 use Prim.Native.Nat.{ℕ, _+_, _-_, _*_, _/_, _<_, _≤_}
 use lib.Dec.{leb}
@@ -18,35 +19,35 @@ abbrev pub rounded-up : ℕ → ℕ → ℕ
 rounded-up a b = (a + (b - 1)) / b
 
 -- sheets of four pages that the copies need
-abbrev pub needed : Order → ℕ
-needed o = o .copies * rounded-up (o .pages) 4
+abbrev pub sheets-needed : Order → ℕ
+sheets-needed o = o .copies * rounded-up (o .pages) 4
 
--- sheets more, of which printing spoils so many in a hundred
-abbrev pub spoilt : Order → Terms → ℕ
-spoilt o t = rounded-up (needed o * t .wastage .value) 100
+-- sheets more, for those that printing spoils: so many in a hundred
+abbrev pub sheets-spoilt : Order → Terms → ℕ
+sheets-spoilt o t = rounded-up (sheets-needed o * t .wastage .value) 100
 
 -- all sheets at the paper's price
-abbrev pub paper : Order → Terms → ℕ → ℕ
-paper o t price = (needed o + spoilt o t) * price
+abbrev pub paper-price : Order → Terms → ℕ → ℕ
+paper-price o t price = (sheets-needed o + sheets-spoilt o t) * price
 
 -- folding of the sheets that are needed
-abbrev pub folding : Order → Terms → ℕ
-folding o t = needed o * t .fold
+abbrev pub folding-price : Order → Terms → ℕ
+folding-price o t = sheets-needed o * t .fold
 
 -- from so many copies on, so much in a hundred is taken off both
-abbrev pub taken-off : Order → Terms → ℕ → ℕ
-taken-off o t price =
-    cond (leb (t .large) (o .copies)) (((paper o t price + folding o t) * t .discount .value) / 100) 0
+abbrev pub discount-on : Order → Terms → ℕ → ℕ
+discount-on o t price =
+    cond (leb (t .large) (o .copies)) (((paper-price o t price + folding-price o t) * t .discount .value) / 100) 0
 
 -- the figures, with the total rounded to the nearest cent
 abbrev pub quoted : Order → Terms → ℕ → Quote
 quoted o t price = record {
-  needed = needed o;
-  spoilt = spoilt o t;
-  paper = paper o t price;
-  folding = folding o t;
-  discount = taken-off o t price;
-  cents = (paper o t price + folding o t - taken-off o t price + 50) / 100;
+  needed = sheets-needed o;
+  spoilt = sheets-spoilt o t;
+  paper = paper-price o t price;
+  folding = folding-price o t;
+  discount = discount-on o t price;
+  cents = (paper-price o t price + folding-price o t - discount-on o t price + 50) / 100;
 }
 
 -- what a customer and the shop may hold a quote to

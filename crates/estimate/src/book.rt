@@ -1,8 +1,10 @@
 // Orders against the price book, a memory of stock records.
 ghost use mathlib.Core.Path.{_≡_};
 ghost use Rattle.std.specs.Options.{okOr};
+ghost use Rattle.std.specs.Vec.{made};
 ghost use Rattle.value.specs.declared.fault.ValueFault.the-variants.{NoValue};
-ghost use Rattle.estimate.specs.Book.{placed, sheets, more-promised, Backed};
+ghost use Rattle.estimate.specs.Quote.{Fair};
+ghost use Rattle.estimate.specs.Book.{placed, all-sheets, more-promised, Backed};
 use crate::fault::OrderFault;
 use crate::fault::OrderFromMemory;
 use crate::fault::OrderFromValue;
@@ -26,6 +28,7 @@ pub fn promise<M: Memory<Value = StockRecord>>(
     ensures placed { λ r. ⌜
         (r, M·Memory .cells (now (book .exit))) ≡ placed (M·Memory .cells (now (book .entry))) order terms
         ⌝ }
+    ensures fair { λ r. ⌜ made r (λ q. Fair order terms q) ⌝ }
     ensures backed { λ _. ⌜
         (Backed (M·Memory .cells (now (book .entry))) → Backed (M·Memory .cells (now (book .exit))))
         ⌝ }
@@ -39,7 +42,7 @@ pub fn promise<M: Memory<Value = StockRecord>>(
 
 // The record with the quote's sheets promised too.
 fn with_promised(paper: StockRecord, quote: Quote) -> Result<StockRecord, ValueFault>
-    ensures { λ r. ⌜ r ≡ okOr (more-promised paper (sheets quote)) (NoValue 3) ⌝ }
+    ensures { λ r. ⌜ r ≡ okOr (more-promised paper (all-sheets quote)) (NoValue 3) ⌝ }
 {
     let promised = paper.promised() as u64 + quote.needed as u64 + quote.spoilt as u64;
     StockRecord::build(&[paper.on_hand() as u64, promised, paper.price() as u64])

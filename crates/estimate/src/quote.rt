@@ -2,7 +2,7 @@
 // not folded. Prices are in hundredths of a cent, the total in cents.
 ghost use mathlib.Core.Path.{_≡_};
 ghost use Prim.Native.Nat.{_*_, _/_, _≤_};
-ghost use Rattle.estimate.specs.Quote.{quoted, needed, rounded-up, Fair};
+ghost use Rattle.estimate.specs.Quote.{quoted, sheets-needed, rounded-up, Fair};
 use crate::order::Order;
 use crate::order::Terms;
 use crate::percent::Percent;
@@ -50,7 +50,7 @@ pub fn estimate(order: Order, terms: Terms, price: u32) -> Quote
 
 // The sheets of all copies.
 fn needed_sheets(order: Order) -> u32
-    ensures value { λ r. ⌜ r ≡ needed order ⌝ }
+    ensures value { λ r. ⌜ r ≡ sheets-needed order ⌝ }
     ensures bound { λ r. ⌜ r ≤ 1073725440 ⌝ }
 {
     order.copies as u32 * sheets_a_copy(order.pages)

@@ -67,6 +67,7 @@ fn is_lawful(starts: &[u32]) -> bool
     *first == 0 && starts.len() <= MOST_OBJECTS && rises(starts)
 }
 
+// Whether each start is above the one before it.
 fn rises(starts: &[u32]) -> bool
     ensures { λ r. ⌜ r ≡ rising (now (starts .entry)) ⌝ }
 {

@@ -30,7 +30,7 @@ pub trait Kind: Copy {
     law counted: { (x : Self) → length (parts x) ≡ size };
 
     // the parts of a built value are the parts given
-    law given: { (ps : List ℕ) (x : Self) → value ps ≡ Some x → parts x ≡ ps };
+    law kept: { (ps : List ℕ) (x : Self) → value ps ≡ Some x → parts x ≡ ps };
 
     // building from a built value's parts gives that value
     law again: { (ps : List ℕ) (x : Self) → value ps ≡ Some x → value (parts x) ≡ Some x };

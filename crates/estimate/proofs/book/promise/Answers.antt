@@ -20,5 +20,6 @@ returns g c =
     let after = c .store .ensures .after in
     record {
       placed = placed-done cells o t x y q at (c .price .ensures) (c .estimate-quote .ensures .figures) enough after;
+      fair = c .estimate-quote .ensures .fair;
       backed = backed-after cells (o .paper) x y _ enough after;
     }
