@@ -1,9 +1,9 @@
 -- How a memory finds the cell at a place. Assumes nothing.
 --   Past cs p fault    there is no cell p, and the fault says so
 --   Here cs p i        there is a cell p, at index i
---   Indexed cs p r     the answer r of a search for p among the cells that a memory over cs counts
+--   Indexed cs p r     the answer r to where p lies, among the cells that a memory over cs counts
 --   Inside xs p half   p is this place of xs, or of what stands behind them
---   Located xs ys p r  the answer r of a search for p among the cells xs with ys behind them
+--   Located xs ys p r  the answer r to where p lies, among the cells xs with ys behind them
 use mathlib.Core.Path.{_≡_}
 use mathlib.Core.List.{List, _++_}
 use Prim.Native.Nat.{ℕ, _-_, _<_, _≤_}
