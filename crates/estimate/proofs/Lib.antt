@@ -1,3 +1,3 @@
-pub mod Fairness
 pub mod Shares
+pub mod Fairness
 pub mod Orders

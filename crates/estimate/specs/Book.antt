@@ -1,12 +1,16 @@
 -- What an order does to the price book. Assumes nothing.
 --   all-sheets q        all sheets of a quote
 --   more-promised x n   the record x with n sheets more promised, where it has them
---   placed cells o t    the order's answer, and the cells it leaves
---   Backed cells        no paper is promised beyond what is on hand
+--   Outcome             an answer, and the cells it leaves
+--   settled cs p q y    the outcome, once the figures and the new record are known
+--   placed-at cs o t x  the outcome, once the paper's record is known
+--   placed cs o t       the outcome of an order
+--   Backed cs           no paper is promised beyond what is on hand
 use mathlib.Core.List.{List, [], _∷_}
 use Prim.Native.Nat.{ℕ, _+_, _≤_}
 use lib.ListN.{set}
 use Rattle.std.specs.Finite.{nth}
+use Rattle.std.specs.Vec.{Every}
 use Rattle.std.specs.declared.option.Option.{Option}
 use Rattle.std.specs.declared.option.Option.the-variants.{Some, None}
 use Rattle.std.specs.declared.result.Result.{Result}
@@ -51,5 +55,4 @@ placed cells o t = placed-at cells o t (nth cells (o .paper))
 
 -- no paper is promised beyond what is on hand
 abbrev pub Backed : List StockRecord → Type 0
-Backed [] = Unit {0}
-Backed (x ∷ xs) = (x .promised ≤ x .«on_hand») × Backed xs
+Backed cells = Every (λ x. x .promised ≤ x .«on_hand») cells

@@ -52,12 +52,14 @@ quoted o t price = record {
 
 -- what a customer and the shop may hold a quote to
 pub record Fair (o : Order) (t : Terms) (q : Quote) : Type 0 where
-  -- the sheets have room for every page, with less than a sheet to spare in each copy
+  -- the sheets have room for every page, with at most three empty pages a copy
   pub room : o .copies * o .pages ≤ 4 * q .needed
   pub tight : 4 * q .needed ≤ o .copies * (o .pages + 3)
   -- wastage is allowed for in full, with less than a sheet to spare
   pub spare : q .needed * t .wastage .value ≤ 100 * q .spoilt
   pub close : 100 * q .spoilt < q .needed * t .wastage .value + 100
+  -- no more is taken off than the prices come to
+  pub off : q .discount ≤ q .paper + q .folding
   -- the total lies within half a cent of the prices less the discount
   pub low : q .paper + q .folding - q .discount ≤ 100 * q .cents + 49
   pub high : 100 * q .cents ≤ q .paper + q .folding - q .discount + 50

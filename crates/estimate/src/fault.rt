@@ -31,17 +31,17 @@ impl OrderFault {
 }
 
 pub impl From<MemoryFault> for OrderFault as OrderFromMemory {
-    ghost converts = { λ fault r. r ≡ NoPaper fault };
+    ghost converts = { λ cause r. r ≡ NoPaper cause };
 
-    fn from(fault: MemoryFault) -> OrderFault {
-        OrderFault::NoPaper(fault)
+    fn from(cause: MemoryFault) -> OrderFault {
+        OrderFault::NoPaper(cause)
     }
 }
 
 pub impl From<ValueFault> for OrderFault as OrderFromValue {
-    ghost converts = { λ fault r. r ≡ NoStock fault };
+    ghost converts = { λ cause r. r ≡ NoStock cause };
 
-    fn from(fault: ValueFault) -> OrderFault {
-        OrderFault::NoStock(fault)
+    fn from(cause: ValueFault) -> OrderFault {
+        OrderFault::NoStock(cause)
     }
 }

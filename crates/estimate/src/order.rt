@@ -19,6 +19,6 @@ pub struct Terms {
     pub fold: u32,
     // what is taken off the price of a large order
     pub discount: Percent,
-    // copies from which on an order is large
+    // an order of this many copies counts as large
     pub large: u16,
 }

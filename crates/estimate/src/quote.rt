@@ -48,7 +48,7 @@ pub fn estimate(order: Order, terms: Terms, price: u32) -> Quote
     }
 }
 
-// The sheets of all copies.
+// The sheets of all copies: at most 65,535 copies of 16,384 sheets.
 fn needed_sheets(order: Order) -> u32
     ensures value { λ r. ⌜ r ≡ sheets-needed order ⌝ }
     ensures bound { λ r. ⌜ r ≤ 1073725440 ⌝ }
@@ -80,7 +80,7 @@ fn share(price: u64, percent: Percent) -> u64
     (price as u128 * percent.value() as u128 / 100) as u64
 }
 
-// Sheets at so much a sheet.
+// Sheets at so much a sheet, which is at most 4,294,967,295.
 fn price_of(sheets: u32, each: u32) -> u64
     ensures value { λ r. ⌜ r ≡ sheets * each ⌝ }
     ensures bound { λ r. ⌜ r ≤ sheets * 4294967295 ⌝ }

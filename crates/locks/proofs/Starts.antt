@@ -10,14 +10,13 @@ use lib.ListN.{length, getD, drop}
 use lib.Seq.{drop-cons}
 use mathlib.Core.Logic.{⊎-elim}
 use native.Mathlib.Nat.{le-of-eq}
-use borrow.Author.Needs.{needs}
 use Rattle.std.specs.Places.{Located}
 use Rattle.std.specs.shelf.Sorted.{unsigned}
 use Rattle.std.specs.declared.result.Result.the-variants.{Ok, Err}
 use Rattle.std.proofs.shelf.Tests.{ltb-true, leb-true, eqb-true, lt-ltb, le-ltb, le-leb, lt-leb}
 use Rattle.std.proofs.shelf.Tests.{and-parts, cases-lt, cases-bool, false≢true}
 use Rattle.std.proofs.shelf.Sorted.{searched}
-use Rattle.locks.specs.ObjectMap.{rising, lawful, object-locks, begun, object-guard, Last-start}
+use Rattle.locks.specs.ObjectMap.{most-objects, rising, lawful, object-locks, begun, object-guard, Last-start}
 
 -- the starts from i - 1 on rise if the two at its front do and those from i on do
 rising-pair : (xs : List ℕ) (i : ℕ) → 0 < i → i < length xs
@@ -80,7 +79,7 @@ begun-none [] p above = refl
 begun-none (x ∷ xs) p above = ap (λ b. cond b (1 + begun p xs) 0) (lt-leb x p (above (omega arith)))
 
 -- the starts not above a place are those up to the last one
-pub begun-last : (xs : List ℕ) (p i : ℕ) → rising xs ≡ true → Last-start xs p i → begun p xs ≡ i + 1
+begun-last : (xs : List ℕ) (p i : ℕ) → rising xs ≡ true → Last-start xs p i → begun p xs ≡ i + 1
 begun-last [] p i up last = absurd (omega arith)
 begun-last (x ∷ xs) p zero up last =
     let none : begun p xs ≡ 0 = begun-none xs p (λ some. last .later 1 (omega arith) (omega arith)) in
@@ -98,18 +97,18 @@ begun-last (x ∷ xs) p (suc i) up last =
 -- what lawful says
 pub record Lawful (xs : List ℕ) : Type 0 where
   pub some : 0 < length xs
-  pub few : length xs ≤ 256
+  pub few : length xs ≤ most-objects
   pub from-zero : getD xs 0 0 ≡ 0
   pub up : rising xs ≡ true
 
 pub lawful-parts : (xs : List ℕ) → lawful xs ≡ true → Lawful xs
 lawful-parts [] fit = absurd (false≢true fit)
 lawful-parts (x ∷ xs) fit =
-    let outer = and-parts (eqb x 0 && leb (length (x ∷ xs)) 256) (rising (x ∷ xs)) fit in
-    let inner = and-parts (eqb x 0) (leb (length (x ∷ xs)) 256) (outer .0) in
+    let outer = and-parts (eqb x 0 && leb (length (x ∷ xs)) most-objects) (rising (x ∷ xs)) fit in
+    let inner = and-parts (eqb x 0) (leb (length (x ∷ xs)) most-objects) (outer .0) in
     record {
       some = omega arith;
-      few = leb-true (length (x ∷ xs)) 256 (inner .1);
+      few = leb-true (length (x ∷ xs)) most-objects (inner .1);
       from-zero = eqb-true x 0 (inner .0);
       up = outer .1;
     }
@@ -127,7 +126,7 @@ counts-none xs none = ⊎-elim
 
 -- what a binary search over a lawful list finds
 module _ (xs : List ℕ) (p i : ℕ) (fit : lawful xs ≡ true) where
-  rises : (i j : ℕ) → i ≤ j → j < length xs → getD xs i 0 ≤ getD xs j 0
+  rises : (j k : ℕ) → j ≤ k → k < length xs → getD xs j 0 ≤ getD xs k 0
   rises = rising-le xs (lawful-parts xs fit .up)
 
   last-found : Located (λ y. unsigned .cmp y p) xs (Ok i) → Last-start xs p i

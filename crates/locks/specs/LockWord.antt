@@ -2,10 +2,9 @@
 --   last-version       the highest version
 --   last-slot          the highest slot
 --   word-of l          the word of the lock l
---   in-range l         its version or slot is no higher
+--   in-range l         its version or slot is no higher than these
 --   encoded l          its word, where it is in range
 --   Reads word l       l is the lock that has this word
---   Reads-none word    no lock has this word
 use mathlib.Core.Path.{_≡_}
 use mathlib.Core.Bool.{Bool, true, cond}
 use Prim.Native.Nat.{ℕ, _+_, _*_}
@@ -40,7 +39,3 @@ encoded l = cond (in-range l) (Some (word-of l)) None
 -- the lock is in range, and this is its word
 abbrev pub Reads : ℕ → Lock → Type 0
 Reads word l = (in-range l ≡ true) × (word-of l ≡ word)
-
--- this is the word of no lock in range
-abbrev pub Reads-none : ℕ → Type 0
-Reads-none word = (l : Lock) → Reads word l → ⊥

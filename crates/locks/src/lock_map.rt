@@ -13,8 +13,9 @@ pub trait LockMap {
     fn count(&self) -> u32
         ensures { λ r. ⌜ r ≡ locks (now (self .entry)) ⌝ };
 
-    // The lock of a place: below the count wherever the count is not 0, and the same whenever asked.
+    // The lock of a place: below the count wherever the count is not 0, else 0; the same whenever asked.
     fn lock(&self, place: u32) -> u32
         ensures told { λ r. ⌜ r ≡ guard (now (self .entry)) place ⌝ }
+        ensures none { λ r. ⌜ (locks (now (self .entry)) ≡ 0 → r ≡ 0) ⌝ }
         ensures below { λ r. ⌜ (0 < locks (now (self .entry)) → r < locks (now (self .entry))) ⌝ };
 }

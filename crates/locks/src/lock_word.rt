@@ -3,13 +3,14 @@
 //   free with version v     8 v + 4      v at most 536,870,911
 //   held by slot s          8 (s + 1)    s at most 7
 ghost use mathlib.Core.Path.{_≡_};
-ghost use Rattle.std.specs.Options.{Cases};
-ghost use Rattle.locks.specs.LockWord.{encoded, Reads, Reads-none};
+ghost use Rattle.std.specs.Slices.{found};
+ghost use Rattle.std.specs.declared.option.Option.the-variants.{Some};
+ghost use Rattle.locks.specs.LockWord.{encoded, Reads};
 
-// The highest version: its word is the largest that fits 32 bits.
+// The highest version: the word of a higher one does not fit 32 bits.
 pub const LAST_VERSION: u32 = 536_870_911;
 
-// The highest slot.
+// The highest slot: an engine has eight, numbered from 0.
 pub const LAST_SLOT: u32 = 7;
 
 #[derive(Clone, Copy, PartialEq, Eq, Debug)]
@@ -34,7 +35,8 @@ impl Lock {
 
     // The lock that has this word, or none where no lock has it.
     pub fn decode(word: u32) -> Option<Lock>
-        ensures { λ r. ⌜ Cases r (Reads-none word) (Reads word) ⌝ }
+        ensures read { λ r. ⌜ found r (Reads word) ⌝ }
+        ensures only { λ r. ⌜ ((l : Lock) → Reads word l → r ≡ Some l) ⌝ }
     {
         if word % 8 == 4 {
             Some(Lock::Free(word / 8))

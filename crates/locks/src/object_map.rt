@@ -14,7 +14,7 @@ pub const MOST_OBJECTS: usize = 256;
 pub struct ObjectMap<'a> {
     starts: &'a [u32],
     locks: u32,
-    ghost counted: { locks ≡ object-locks (behind starts) },
+    ghost counts: { locks ≡ object-locks (behind starts) },
 }
 
 impl<'a> ObjectMap<'a> {
@@ -43,6 +43,7 @@ pub impl<'a> LockMap for ObjectMap<'a> as ObjectMapLocks {
     // With locks to count, the index of the last start not above the place.
     fn lock(&self, place: u32) -> u32
         ensures told { λ r. ⌜ r ≡ object-guard (now (now (self .entry) .starts)) place ⌝ }
+        ensures none { λ r. ⌜ (object-locks (now (now (self .entry) .starts)) ≡ 0 → r ≡ 0) ⌝ }
         ensures below { λ r. ⌜
             (0 < object-locks (now (now (self .entry) .starts)) → r < object-locks (now (now (self .entry) .starts)))
             ⌝ }

@@ -1,22 +1,20 @@
 -- What the answers of a memory are, within its cells and past them, and how cells set behind one another
 -- answer. The proofs of `Flat` and `Joined` cite these.
 use mathlib.Core.Path.{_≡_, refl, sym, ap, _∙_}
-use mathlib.Core.Bool.{cond}
 use mathlib.Core.List.{List, [], _∷_, _++_}
-use Prim.Native.Nat.{ℕ, zero, suc, _+_, _-_, _<_, _≤_, min}
+use Prim.Native.Nat.{ℕ, zero, suc, _+_, _-_, _<_, _≤_}
 use native.Mathlib.Omega.{arith}
-use lib.Dec.{ltb}
 use lib.ListN.{length, take, drop, set, length-take, length-append}
 use lib.Seq.{take-set-lt, drop-set-lt}
 use borrow.Author.Needs.{needs}
 use Rattle.std.specs.Finite.{nth}
 use Rattle.std.specs.Options.{okOr}
-use Rattle.std.specs.declared.option.Option.the-variants.{Some, None}
+use Rattle.std.specs.declared.option.Option.the-variants.{Some}
 use Rattle.std.specs.declared.result.Result.{Result}
 use Rattle.std.specs.declared.result.Result.the-variants.{Ok, Err}
 use Rattle.std.proofs.iter.runs.Lists.{nth-left, nth-right}
 use Rattle.std.proofs.shelf.Lists.{set-append-left, set-append-right, set-past}
-use Rattle.std.proofs.shelf.Maps.{nth-getD, nth-past}
+use Rattle.std.proofs.shelf.Maps.{nth-past}
 use Rattle.memory.specs.Cells.{loaded, stored}
 use Rattle.memory.specs.Places.{Past, Here, Inside}
 use Rattle.memory.specs.declared.joined.Half.the-variants.{First, Second}
@@ -25,10 +23,10 @@ use Rattle.memory.specs.declared.fault.MemoryFault.the-variants.{PastEnd}
 
 module _ {V : Type 0} where
   -- at or past the count, both are refused
-  pub loaded-past : (cs : List V) (p : ℕ) → length cs ≤ p → loaded cs p ≡ Err (PastEnd p)
+  loaded-past : (cs : List V) (p : ℕ) → length cs ≤ p → loaded cs p ≡ Err (PastEnd p)
   loaded-past cs p h = ap (λ o. okOr o (PastEnd p)) (nth-past cs p h)
 
-  pub stored-past : (cs : List V) (p : ℕ) → length cs ≤ p → stored cs p ≡ Err (PastEnd p)
+  stored-past : (cs : List V) (p : ℕ) → length cs ≤ p → stored cs p ≡ Err (PastEnd p)
   stored-past cs p h = search needs
 
   -- a refusal that is handed on
@@ -40,18 +38,18 @@ module _ {V : Type 0} where
       → Past cs p f → r ≡ stored cs p
   refused-store cs p is same past = is ∙ ap Err (same ∙ past .0) ∙ sym (stored-past cs p (past .1))
 
-  pub unchanged-past : (cs : List V) (p : ℕ) (v : V) (f : MemoryFault) → Past cs p f → cs ≡ set cs p v
-  unchanged-past cs p v f past = sym (set-past cs p v (past .1))
+  pub unchanged-past : (cs : List V) (p : ℕ) (v : V) {f : MemoryFault} → Past cs p f → cs ≡ set cs p v
+  unchanged-past cs p v past = sym (set-past cs p v (past .1))
 
   -- below the count, neither is
-  pub loaded-within : (cs : List V) (p : ℕ) (v : V) → nth cs p ≡ Some v → loaded cs p ≡ Ok v
+  loaded-within : (cs : List V) (p : ℕ) (v : V) → nth cs p ≡ Some v → loaded cs p ≡ Ok v
   loaded-within cs p v e = ap (λ o. okOr o (PastEnd p)) e
 
   pub stored-within : (cs : List V) (p : ℕ) → p < length cs → stored cs p ≡ Ok tt
   stored-within cs p h = search needs
 
   -- the first n cells answer as all do
-  pub nth-take : (n : ℕ) (cs : List V) (p : ℕ) → p < n → nth (take n cs) p ≡ nth cs p
+  nth-take : (n : ℕ) (cs : List V) (p : ℕ) → p < n → nth (take n cs) p ≡ nth cs p
   nth-take zero cs p h = absurd (omega arith)
   nth-take (suc n) [] p h = refl
   nth-take (suc n) (c ∷ cs) zero h = refl
@@ -66,6 +64,18 @@ module _ {V : Type 0} where
   nth-append-right xs ys p right =
       let e : p ≡ length xs + (p - length xs) = omega arith in
       ap (nth (xs ++ ys)) e ∙ nth-right xs ys (p - length xs)
+
+  -- cells ys behind cells xs, one of which is set
+  both-first : (xs ys : List V) (p : ℕ) (v : V) {zs : List V} {i : ℕ} → zs ≡ set xs i v → Inside xs p (First i)
+      → zs ++ ys ≡ set (xs ++ ys) p v
+  both-first xs ys p v done left =
+      ap (λ l. l ++ ys) (done ∙ ap (λ i. set xs i v) (left .0)) ∙ sym (set-append-left xs ys p v (left .1))
+
+  both-second : (xs ys : List V) (p : ℕ) (v : V) {zs : List V} {i : ℕ} → zs ≡ set ys i v → Inside xs p (Second i)
+      → xs ++ zs ≡ set (xs ++ ys) p v
+  both-second xs ys p v done right =
+      ap (λ l. xs ++ l) (done ∙ ap (λ i. set ys i v) (right .0))
+      ∙ sym (set-append-right xs ys (length xs) p v refl (right .1))
 
 -- The first n of the cells, at a place p that they have, found at index i.
 module _ {V : Type 0} (n : ℕ) (cells : List V) (p i : ℕ) (here : Here (take n cells) p i) where
@@ -123,17 +133,6 @@ module _ {V : Type 0} (n : ℕ) (xs ys : List V) (p : ℕ) (within : p < length 
   stored-second {i = i} done right = done ∙ stored-within ys i (omega (arith, right .0, in-second (right .1)))
       ∙ sym (stored-within (take n (xs ++ ys)) p within)
 
-  both-first : (v : V) {zs : List V} {i : ℕ} → zs ≡ set xs i v → Inside xs p (First i)
-      → zs ++ ys ≡ set (xs ++ ys) p v
-  both-first v done left =
-      ap (λ l. l ++ ys) (done ∙ ap (λ i. set xs i v) (left .0)) ∙ sym (set-append-left xs ys p v (left .1))
-
-  both-second : (v : V) {zs : List V} {i : ℕ} → zs ≡ set ys i v → Inside xs p (Second i)
-      → xs ++ zs ≡ set (xs ++ ys) p v
-  both-second v done right =
-      ap (λ l. xs ++ l) (done ∙ ap (λ i. set ys i v) (right .0))
-      ∙ sym (set-append-right xs ys (length xs) p v refl (right .1))
-
   counted-set : (v : V) (zs : List V) → zs ≡ set (xs ++ ys) p v → take n zs ≡ set (take n (xs ++ ys)) p v
   counted-set v zs done = ap (take n) done ∙ take-set-lt n (xs ++ ys) p v below
 
@@ -142,16 +141,16 @@ module _ {V : Type 0} (n : ℕ) (xs ys : List V) (p : ℕ) (within : p < length 
 
   pub set-first : (v : V) {zs : List V} {i : ℕ} → zs ≡ set xs i v → Inside xs p (First i)
       → take n (zs ++ ys) ≡ set (take n (xs ++ ys)) p v
-  set-first v {zs} done left = counted-set v (zs ++ ys) (both-first v done left)
+  set-first v {zs} done left = counted-set v (zs ++ ys) (both-first xs ys p v done left)
 
   pub set-second : (v : V) {zs : List V} {i : ℕ} → zs ≡ set ys i v → Inside xs p (Second i)
       → take n (xs ++ zs) ≡ set (take n (xs ++ ys)) p v
-  set-second v {zs} done right = counted-set v (xs ++ zs) (both-second v done right)
+  set-second v {zs} done right = counted-set v (xs ++ zs) (both-second xs ys p v done right)
 
   pub rest-first : (v : V) {zs : List V} {i : ℕ} → zs ≡ set xs i v → Inside xs p (First i)
       → drop n (zs ++ ys) ≡ drop n (xs ++ ys)
-  rest-first v {zs} done left = beyond-set v (zs ++ ys) (both-first v done left)
+  rest-first v {zs} done left = beyond-set v (zs ++ ys) (both-first xs ys p v done left)
 
   pub rest-second : (v : V) {zs : List V} {i : ℕ} → zs ≡ set ys i v → Inside xs p (Second i)
       → drop n (xs ++ zs) ≡ drop n (xs ++ ys)
-  rest-second v {zs} done right = beyond-set v (xs ++ zs) (both-second v done right)
+  rest-second v {zs} done right = beyond-set v (xs ++ zs) (both-second xs ys p v done right)

@@ -1,4 +1,5 @@
--- How a memory finds the cell at a place. Assumes nothing.
+-- How a memory finds the cell at a place. Only contracts of private functions cite this file; nothing that a
+-- caller is promised rests on it. Assumes nothing.
 --   Past cs p fault    there is no cell p, and the fault says so
 --   Here cs p i        there is a cell p, at index i
 --   Indexed cs p r     the answer r to where p lies, among the cells that a memory over cs counts
@@ -17,11 +18,11 @@ use Rattle.memory.specs.declared.joined.Half.{Half}
 use Rattle.memory.specs.declared.joined.Half.the-variants.{First, Second}
 
 module _ {V : Type 0} where
-  -- the place lies at or past the count
+  -- the place lies at or past the count, and the fault tells it
   abbrev pub Past : List V → ℕ → MemoryFault → Type 0
   Past cells place fault = (fault ≡ PastEnd place) × (length cells ≤ place)
 
-  -- the place lies below the count
+  -- the place lies below the count, and is the index
   abbrev pub Here : List V → ℕ → ℕ → Type 0
   Here cells place index = (index ≡ place) × (place < length cells)
 
@@ -34,7 +35,7 @@ module _ {V : Type 0} where
   Inside xs place (First inner) = (inner ≡ place) × (place < length xs)
   Inside xs place (Second inner) = (inner ≡ place - length xs) × (length xs ≤ place)
 
-  -- where among both a cell lies that the joined memory counts, or a refusal
+  -- the half in which the cell lies, where the joined memory counts it, or a refusal
   abbrev pub Located : List V → List V → ℕ → Result Half MemoryFault → Type 0
   Located xs ys place r =
       Cases r (λ half. (place < length (counted (xs ++ ys))) × Inside xs place half) (Past (counted (xs ++ ys)) place)

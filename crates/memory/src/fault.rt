@@ -2,8 +2,6 @@
 ghost use mathlib.Core.Path.{_≡_};
 ghost use Rattle.memory.specs.Fault.{told};
 use refusal::layer::Layer;
-use refusal::layer::LayerDebug;
-use refusal::layer::LayerPartialEq;
 use refusal::refusal::Refusal;
 
 #[derive(Clone, Copy, PartialEq, Eq, Debug)]

@@ -1,7 +1,7 @@
 // The joined memory: the cells of a second memory behind those of a first, up to 1,048,576 in all.
 ghost use mathlib.Core.Path.{_≡_};
 ghost use mathlib.Core.List.{_++_};
-ghost use lib.ListN.{set};
+ghost use lib.ListN.{length, set};
 ghost use Rattle.memory.specs.Cells.{counted, beyond, stored};
 ghost use Rattle.memory.specs.Places.{Located};
 use crate::fault::MemoryFault;
@@ -37,7 +37,7 @@ pub impl<A: Memory, B: Memory<Value = A::Value>> Memory for Joined<A, B> as Join
         }
     }
 
-    // Cells of the two memories past the count stay as they are.
+    // Cells of the two memories past the count stay as they are, and each keeps as many as it had.
     fn store(&mut self, place: u32, value: A::Value) -> Result<(), MemoryFault>
         ensures answer { λ r. ⌜
             r ≡ stored (counted
@@ -51,6 +51,9 @@ pub impl<A: Memory, B: Memory<Value = A::Value>> Memory for Joined<A, B> as Join
         ensures rest { λ _. ⌜
             beyond (A·Memory .cells (now (self .exit) .first) ++ B·Memory .cells (now (self .exit) .second))
             ≡ beyond (A·Memory .cells (now (self .entry) .first) ++ B·Memory .cells (now (self .entry) .second))
+            ⌝ }
+        ensures seam { λ _. ⌜
+            length (A·Memory .cells (now (self .exit) .first)) ≡ length (A·Memory .cells (now (self .entry) .first))
             ⌝ }
     {
         match self.locate(place)? {
@@ -67,10 +70,10 @@ impl<A: Memory, B: Memory<Value = A::Value>> Joined<A, B> {
             Located (A·Memory .cells (now (self .entry) .first)) (B·Memory .cells (now (self .entry) .second)) place r
             ⌝ }
     {
+        let split = self.first.count();
         if place >= self.count() {
             return Err(MemoryFault::PastEnd(place));
         }
-        let split = self.first.count();
         Ok(if place < split {
             Half::First(place)
         } else {

@@ -25,7 +25,7 @@ pub trait Memory {
         ensures { λ r. ⌜ r ≡ loaded (cells (now (self .entry))) place ⌝ };
 
     // Puts a value into the cell at a place, and touches no other. Refused exactly at or past the
-    // count, and then nothing changes.
+    // count, and then nothing changes (`set` past the end of a list gives the list).
     fn store(&mut self, place: u32, value: Self::Value) -> Result<(), MemoryFault>
         ensures answer { λ r. ⌜ r ≡ stored (cells (now (self .entry))) place ⌝ }
         ensures after { λ _. ⌜ cells (now (self .exit)) ≡ set (cells (now (self .entry))) place value ⌝ };

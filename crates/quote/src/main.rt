@@ -130,7 +130,7 @@ fn print_quote(rt: &LibcRuntime, quote: Quote) -> io::Result<()> {
     print_price(rt, "discount", quote.discount)?;
     println!(
         rt,
-        "  to pay    {}.{:02}",
+        "  to pay   {:>5}.{:02}",
         quote.cents / 100,
         quote.cents % 100
     )
@@ -138,7 +138,7 @@ fn print_quote(rt: &LibcRuntime, quote: Quote) -> io::Result<()> {
 
 // Prices are in hundredths of a cent.
 fn print_price(rt: &LibcRuntime, what: &str, price: u64) -> io::Result<()> {
-    println!(rt, "  {what}  {}.{:04}", price / 10_000, price % 10_000)
+    println!(rt, "  {what} {:>5}.{:04}", price / 10_000, price % 10_000)
 }
 
 fn print_fault(rt: &LibcRuntime, fault: OrderFault) -> io::Result<()> {

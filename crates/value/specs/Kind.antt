@@ -1,9 +1,7 @@
 -- What building answers, for every kind. Assumes nothing.
 --   built v n       the value v, or the refusal of n parts where there is none
 --   widest b        the largest number of b bits
---   Each-below l ps every part is at most l
-use Prim.Native.Nat.{ℕ, _-_, _^_, _≤_}
-use mathlib.Core.List.{List, [], _∷_}
+use Prim.Native.Nat.{ℕ, _-_, _^_}
 use Rattle.std.specs.Options.{okOr}
 use Rattle.std.specs.declared.option.Option.{Option}
 use Rattle.std.specs.declared.result.Result.{Result}
@@ -17,8 +15,3 @@ built v n = okOr v (NoValue n)
 -- the largest number of so many bits
 abbrev pub widest : ℕ → ℕ
 widest bits = 2 ^ bits - 1
-
--- every part is at most the limit
-abbrev pub Each-below : ℕ → List ℕ → Type 0
-Each-below limit [] = Unit {0}
-Each-below limit (p ∷ ps) = (p ≤ limit) × Each-below limit ps

@@ -1,7 +1,7 @@
 -- The stock record: a value of three parts of 32 bits. Assumes nothing.
---   stock-parts x               on hand, promised, price
---   sound-stock hand held price these three make a record
---   stock-of ps                 the record with these parts
+--   stock-parts x                      on hand, promised, price
+--   sound-stock hand promised price    these three make a record
+--   stock-of ps                        the record with these parts
 use Prim.Native.Nat.{ℕ}
 use mathlib.Core.Bool.{Bool, cond, _&&_}
 use mathlib.Core.List.{List, [], _∷_}
@@ -17,7 +17,7 @@ stock-parts x = x .«on_hand» ∷ x .promised ∷ x .price ∷ []
 
 -- each part fits 32 bits, and no more is promised than there is
 abbrev pub sound-stock : ℕ → ℕ → ℕ → Bool
-sound-stock hand held price = leb hand (widest 32) && leb held hand && leb price (widest 32)
+sound-stock hand promised price = leb hand (widest 32) && leb promised hand && leb price (widest 32)
 
 -- three sound parts make a record, and nothing else does
 abbrev pub stock-of : List ℕ → Option StockRecord

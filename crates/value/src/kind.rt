@@ -7,7 +7,8 @@ ghost use Rattle.std.specs.Finite.{nth};
 ghost use Rattle.std.specs.declared.option.Option.{Option};
 ghost use Rattle.std.specs.declared.option.Option.the-variants.{Some, None};
 ghost use Rattle.std.specs.Options.{Cases};
-ghost use Rattle.value.specs.Kind.{built, Each-below};
+ghost use Rattle.std.specs.Vec.{Every};
+ghost use Rattle.value.specs.Kind.{built};
 use crate::fault::ValueFault;
 
 pub trait Kind: Copy {
@@ -23,11 +24,11 @@ pub trait Kind: Copy {
     // the value that has these parts, where the kind has one
     ghost value: { List ℕ → Option Self };
 
-    // a value has one to four parts of at most 64 bits
+    // a value has one to four parts, and the limit of a part is at most 64 bits
     law few: { (1 ≤ size) × (size ≤ 4) × (limit < 2 ^ 64) };
 
     // a value's parts are as many as the kind tells
-    law counted: { (x : Self) → length (parts x) ≡ size };
+    law sized: { (x : Self) → length (parts x) ≡ size };
 
     // the parts of a built value are the parts given
     law kept: { (ps : List ℕ) (x : Self) → value ps ≡ Some x → parts x ≡ ps };
@@ -39,7 +40,7 @@ pub trait Kind: Copy {
     law same: { (x y : Self) → parts x ≡ parts y → x ≡ y };
 
     // no part of a built value is over the limit
-    law narrow: { (ps : List ℕ) (x : Self) → value ps ≡ Some x → Each-below limit ps };
+    law narrow: { (ps : List ℕ) (x : Self) → value ps ≡ Some x → Every (λ p. p ≤ limit) ps };
 
     // How many parts a value has.
     fn part_count() -> usize

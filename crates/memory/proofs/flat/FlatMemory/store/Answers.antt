@@ -10,7 +10,7 @@ returns-in-Break-index g c =
     let past = c .in-Break-index .ensures tt in
     record {
       answer = refused-store (counted (c .args .self .now .cells .now)) (c .args .place) (p .1) (p .2) past;
-      after = unchanged-past (counted (c .args .self .now .cells .now)) (c .args .place) (c .args .value) _ past;
+      after = unchanged-past (counted (c .args .self .now .cells .now)) (c .args .place) (c .args .value) past;
       rest = refl;
       lender = refl;
     }

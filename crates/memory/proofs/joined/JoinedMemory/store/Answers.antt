@@ -1,4 +1,5 @@
-use mathlib.Core.Path.{refl, subst}
+use mathlib.Core.Path.{refl, ap, subst, _∙_}
+use lib.ListN.{length, length-set}
 use mathlib.Core.List.{_++_}
 use Rattle.std.proofs.shelf.Results.{err-from-errBy}
 use Rattle.memory.specs.Cells.{most-cells, counted}
@@ -15,8 +16,9 @@ returns-in-Break-inner g c =
     let past = c .in-Break-inner .ensures tt in
     record {
       answer = refused-store (counted (xs ++ ys)) (c .args .place) (p .1) (p .2) past;
-      after = unchanged-past (counted (xs ++ ys)) (c .args .place) (c .args .value) _ past;
+      after = unchanged-past (counted (xs ++ ys)) (c .args .place) (c .args .value) past;
       rest = refl;
+      seam = refl;
     }
 
 pub returns-in-First : need.returns-in-First
@@ -30,6 +32,7 @@ returns-in-First g c =
       answer = stored-first most-cells xs ys (c .args .place) (lies .0) (done .answer) left;
       after = set-first most-cells xs ys (c .args .place) (lies .0) (c .args .value) (done .after) left;
       rest = rest-first most-cells xs ys (c .args .place) (lies .0) (c .args .value) (done .after) left;
+      seam = ap length (done .after) ∙ length-set xs (c .in-First .inner) (c .args .value);
     }
 
 pub returns-in-Second : need.returns-in-Second
@@ -43,4 +46,5 @@ returns-in-Second g c =
       answer = stored-second most-cells xs ys (c .args .place) (lies .0) (done .answer) right;
       after = set-second most-cells xs ys (c .args .place) (lies .0) (c .args .value) (done .after) right;
       rest = rest-second most-cells xs ys (c .args .place) (lies .0) (c .args .value) (done .after) right;
+      seam = refl;
     }
