@@ -16,7 +16,7 @@ use Rattle.std.proofs.iter.runs.Lists.{nth-left, nth-right}
 use Rattle.std.proofs.shelf.Lists.{set-append-left, set-append-right, set-past}
 use Rattle.std.proofs.shelf.Maps.{nth-past}
 use Rattle.memory.specs.Cells.{loaded, stored}
-use Rattle.memory.specs.Places.{Past, Here, Inside}
+use Rattle.memory.specs.Places.{Past, Inside}
 use Rattle.memory.specs.declared.joined.Half.the-variants.{First, Second}
 use Rattle.memory.specs.declared.fault.MemoryFault.{MemoryFault}
 use Rattle.memory.specs.declared.fault.MemoryFault.the-variants.{PastEnd}
@@ -78,27 +78,24 @@ module _ {V : Type 0} where
       ∙ sym (set-append-right xs ys (length xs) p v refl (right .1))
 
 -- The first n of the cells, at a place p that they have, found at index i.
-module _ {V : Type 0} (n : ℕ) (cells : List V) (p i : ℕ) (here : Here (take n cells) p i) where
+module _ {V : Type 0} (n : ℕ) (cells : List V) (p i : ℕ) (same : i ≡ p) (within : p < length (take n cells)) where
   below-first : p < n
-  below-first = omega (arith, here .1, length-take n cells)
-
-  pub index-within : i < length cells
-  index-within = omega (arith, here .0, here .1, length-take n cells)
+  below-first = omega (arith, length-take n cells)
 
   pub loaded-here : (v : V) → nth cells i ≡ Some v → Ok v ≡ loaded (take n cells) p
   loaded-here v read =
-      sym (loaded-within (take n cells) p v (nth-take n cells p below-first ∙ ap (nth cells) (sym (here .0)) ∙ read))
+      sym (loaded-within (take n cells) p v (nth-take n cells p below-first ∙ ap (nth cells) (sym same) ∙ read))
 
   pub stored-here : Ok tt ≡ stored (take n cells) p
-  stored-here = sym (stored-within (take n cells) p (here .1))
+  stored-here = sym (stored-within (take n cells) p within)
 
   pub set-here : (v : V) (after : List V) → after ≡ set cells i v → take n after ≡ set (take n cells) p v
   set-here v after done =
-      ap (take n) (done ∙ ap (λ k. set cells k v) (here .0)) ∙ take-set-lt n cells p v below-first
+      ap (take n) (done ∙ ap (λ k. set cells k v) same) ∙ take-set-lt n cells p v below-first
 
   pub beyond-here : (v : V) (after : List V) → after ≡ set cells i v → drop n after ≡ drop n cells
   beyond-here v after done =
-      ap (drop n) (done ∙ ap (λ k. set cells k v) (here .0)) ∙ drop-set-lt n cells p v below-first
+      ap (drop n) (done ∙ ap (λ k. set cells k v) same) ∙ drop-set-lt n cells p v below-first
 
 -- The cells ys behind the cells xs, n of them at most, at a place p that they have.
 module _ {V : Type 0} (n : ℕ) (xs ys : List V) (p : ℕ) (within : p < length (take n (xs ++ ys))) where

@@ -1,7 +1,7 @@
 -- How a memory finds the cell at a place. Only contracts of private functions cite this file; nothing that a
 -- caller is promised rests on it. Assumes nothing.
 --   Past cs p fault    there is no cell p, and the fault says so
---   Here cs p i        there is a cell p, at index i
+--   Here cs p i        a memory over cs counts the place p, at index i
 --   Indexed cs p r     the answer r to where p lies, among the cells that a memory over cs counts
 --   Inside xs p half   p is this place of xs, or of what stands behind them
 --   Located xs ys p r  the answer r to where p lies, among the cells xs with ys behind them
@@ -22,13 +22,13 @@ module _ {V : Type 0} where
   abbrev pub Past : List V → ℕ → MemoryFault → Type 0
   Past cells place fault = (fault ≡ PastEnd place) × (length cells ≤ place)
 
-  -- the place lies below the count, and is the index
+  -- the memory counts the place, which is the index of one of the cells
   abbrev pub Here : List V → ℕ → ℕ → Type 0
-  Here cells place index = (index ≡ place) × (place < length cells)
+  Here cells place index = (index < length cells) × (index ≡ place) × (place < length (counted cells))
 
   -- the index of a cell that the memory counts, or a refusal
   abbrev pub Indexed : List V → ℕ → Result ℕ MemoryFault → Type 0
-  Indexed cells place r = Cases r (Here (counted cells) place) (Past (counted cells) place)
+  Indexed cells place r = Cases r (Here cells place) (Past (counted cells) place)
 
   -- the place itself, or what is left of it behind the first cells
   abbrev pub Inside : List V → ℕ → Half → Type 0

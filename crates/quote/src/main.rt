@@ -21,7 +21,7 @@ fn main(rt: LibcRuntime) -> Result<(), AnyError> {
 }
 
 // Two shelves make the book. A choir's order is quoted and its paper promised; an order too large for
-// the stock and one for a paper that the book has not are refused, and leave the book as it was.
+// the stock and one for a paper that the book does not have are refused, and leave the book as it was.
 fn run(rt: &LibcRuntime) -> Result<(), AnyError> {
     let mut music = [paper(2_000, 650, 230)?, paper(4_500, 1_200, 310)?];
     let mut covers = [paper(800, 0, 940)?, paper(600, 450, 1_275)?];
@@ -34,10 +34,10 @@ fn run(rt: &LibcRuntime) -> Result<(), AnyError> {
         second: Flat { cells: &mut covers },
     };
     list(rt, &book)?;
-    let terms = terms()?;
-    place(rt, &mut book, terms, order(60, 22, 1))?;
-    place(rt, &mut book, terms, order(600, 22, 1))?;
-    place(rt, &mut book, terms, order(60, 4, 4))?;
+    let terms = house_terms()?;
+    take_order(rt, &mut book, terms, order(60, 22, 1))?;
+    take_order(rt, &mut book, terms, order(600, 22, 1))?;
+    take_order(rt, &mut book, terms, order(60, 4, 4))?;
     println!(rt, "Closing the price book.")?;
     list(rt, &book)?;
     Ok(())
@@ -47,13 +47,13 @@ fn run(rt: &LibcRuntime) -> Result<(), AnyError> {
 fn paper(on_hand: u64, promised: u64, price: u64) -> Result<StockRecord, AnyError> {
     match StockRecord::build(&[on_hand, promised, price]) {
         Ok(paper) => Ok(paper),
-        Err(_) => Err("the example promises paper that it has not".into()),
+        Err(_) => Err("the example promises more paper than it has".into()),
     }
 }
 
 // The terms of the example: 5 in 100 sheets spoilt, 0.45 cents to fold a sheet, 8 in 100 off from 50
 // copies on.
-fn terms() -> Result<Terms, AnyError> {
+fn house_terms() -> Result<Terms, AnyError> {
     let wastage = percent(5)?;
     let discount = percent(8)?;
     Ok(Terms {
@@ -82,26 +82,38 @@ fn order(copies: u16, pages: u16, paper: u32) -> Order {
 // Prints every paper of the book.
 fn list<M: Memory<Value = StockRecord>>(rt: &LibcRuntime, book: &M) -> io::Result<()> {
     for place in 0..book.count() {
-        if let Ok(paper) = book.load(place) {
-            print_paper(rt, place, paper)?;
-        }
+        print_paper(rt, "", book, place)?;
     }
     Ok(())
 }
 
-fn print_paper(rt: &LibcRuntime, place: u32, paper: StockRecord) -> io::Result<()> {
+// Prints the paper at a place, where the book has one.
+fn print_paper<M: Memory<Value = StockRecord>>(
+    rt: &LibcRuntime,
+    action: &str,
+    book: &M,
+    place: u32,
+) -> io::Result<()> {
+    let Ok(paper) = book.load(place) else {
+        return Ok(());
+    };
     let price = paper.price();
     print!(
         rt,
-        "  paper {place}: {} sheets on hand, {} promised, ",
-        paper.on_hand(),
-        paper.promised()
+        "  {action}paper {place}: {} sheets on hand, ",
+        paper.on_hand()
     )?;
-    println!(rt, "{}.{:02} cents a sheet", price / 100, price % 100)
+    println!(
+        rt,
+        "{} promised, {}.{:02} cents a sheet",
+        paper.promised(),
+        price / 100,
+        price % 100
+    )
 }
 
-// Places an order and prints what comes of it.
-fn place<M: Memory<Value = StockRecord>>(
+// Takes an order and prints what is done for it.
+fn take_order<M: Memory<Value = StockRecord>>(
     rt: &LibcRuntime,
     book: &mut M,
     terms: Terms,
@@ -113,8 +125,12 @@ fn place<M: Memory<Value = StockRecord>>(
         order.copies, order.pages
     )?;
     println!(rt, "on paper {}.", order.paper)?;
+    print_paper(rt, "read      ", book, order.paper)?;
     match promise(book, order, terms) {
-        Ok(quote) => print_quote(rt, quote),
+        Ok(quote) => {
+            print_quote(rt, quote)?;
+            print_paper(rt, "stored    ", book, order.paper)
+        }
         Err(fault) => print_fault(rt, fault),
     }
 }
@@ -122,15 +138,15 @@ fn place<M: Memory<Value = StockRecord>>(
 fn print_quote(rt: &LibcRuntime, quote: Quote) -> io::Result<()> {
     println!(
         rt,
-        "  sheets    {} needed, {} more for wastage: promised",
+        "  sheets    {} needed, {} more for wastage",
         quote.needed, quote.spoilt
     )?;
-    print_price(rt, "paper   ", quote.paper)?;
-    print_price(rt, "folding ", quote.folding)?;
-    print_price(rt, "discount", quote.discount)?;
+    print_price(rt, "paper    ", quote.paper)?;
+    print_price(rt, "folding  ", quote.folding)?;
+    print_price(rt, "discount ", quote.discount)?;
     println!(
         rt,
-        "  to pay   {:>5}.{:02}",
+        "  to pay    {:>5}.{:02}   dollars",
         quote.cents / 100,
         quote.cents % 100
     )
@@ -138,7 +154,12 @@ fn print_quote(rt: &LibcRuntime, quote: Quote) -> io::Result<()> {
 
 // Prices are in hundredths of a cent.
 fn print_price(rt: &LibcRuntime, what: &str, price: u64) -> io::Result<()> {
-    println!(rt, "  {what} {:>5}.{:04}", price / 10_000, price % 10_000)
+    println!(
+        rt,
+        "  {what} {:>5}.{:04} dollars",
+        price / 10_000,
+        price % 10_000
+    )
 }
 
 fn print_fault(rt: &LibcRuntime, fault: OrderFault) -> io::Result<()> {
@@ -147,9 +168,12 @@ fn print_fault(rt: &LibcRuntime, fault: OrderFault) -> io::Result<()> {
         OrderFault::NoStock(_) => "not enough sheets are left to promise",
     };
     let refusal = fault.refusal();
-    println!(
+    print!(
         rt,
-        "  refused   {} {}: {reason}; nothing changed",
-        refusal.number, refusal.detail
-    )
+        "  refused   {} {}, layer {}: ",
+        refusal.number,
+        refusal.detail,
+        refusal.layer.number()
+    )?;
+    println!(rt, "{reason}; nothing changed")
 }

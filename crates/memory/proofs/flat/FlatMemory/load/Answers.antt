@@ -1,6 +1,6 @@
 use Rattle.std.proofs.shelf.Results.{err-from-errBy}
 use Rattle.memory.specs.Cells.{most-cells, counted}
-use Rattle.memory.proofs.Places.{refused-load, index-within, loaded-here}
+use Rattle.memory.proofs.Places.{refused-load, loaded-here}
 use Rattle.memory.proofs.flat.FlatMemory.load.Needs as need
 
 pub returns-in-Break-index : need.returns-in-Break-index
@@ -9,11 +9,7 @@ returns-in-Break-index g c =
     let past = c .in-Break-index .ensures tt in
     refused-load (counted (c .args .self .now .cells .now)) (c .args .place) (p .1) (p .2) past
 
-pub read-requires : need.read-requires
-read-requires g c κs =
-    index-within most-cells (c .args .self .now .cells .now) (c .args .place) _ (c .in-Continue-index .ensures tt)
-
 pub returns : need.returns
 returns g c =
     let here = c .in-Continue-index .ensures tt in
-    loaded-here most-cells (c .args .self .now .cells .now) (c .args .place) _ here _ (c .read .ensures)
+    loaded-here most-cells (c .args .self .now .cells .now) (c .args .place) _ (here .1) (here .2) _ (c .read .ensures)

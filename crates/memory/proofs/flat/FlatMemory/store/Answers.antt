@@ -1,7 +1,7 @@
 use mathlib.Core.Path.{refl}
 use Rattle.std.proofs.shelf.Results.{err-from-errBy}
-use Rattle.memory.specs.Cells.{most-cells, counted}
-use Rattle.memory.proofs.Places.{refused-store, unchanged-past, index-within, stored-here, set-here, beyond-here}
+use Rattle.memory.specs.Cells.{most-cells, counted, beyond}
+use Rattle.memory.proofs.Places.{refused-store, unchanged-past, stored-here, set-here, beyond-here}
 use Rattle.memory.proofs.flat.FlatMemory.store.Needs as need
 
 pub returns-in-Break-index : need.returns-in-Break-index
@@ -11,21 +11,20 @@ returns-in-Break-index g c =
     record {
       answer = refused-store (counted (c .args .self .now .cells .now)) (c .args .place) (p .1) (p .2) past;
       after = unchanged-past (counted (c .args .self .now .cells .now)) (c .args .place) (c .args .value) past;
-      rest = refl;
-      lender = refl;
+      rest = refl {a = beyond (c .args .self .now .cells .now)};
+      lender = refl {a = c .args .self .now .cells .name};
     }
-
-pub write-requires : need.write-requires
-write-requires g c κs =
-    index-within most-cells (c .args .self .now .cells .now) (c .args .place) _ (c .in-Continue-index .ensures tt)
 
 pub returns : need.returns
 returns g c =
+    let cells = c .args .self .now .cells .now in
+    let place = c .args .place in
+    let value = c .args .value in
     let here = c .in-Continue-index .ensures tt in
     let done = c .write .ensures in
     record {
-      answer = stored-here most-cells (c .args .self .now .cells .now) (c .args .place) _ here;
-      after = set-here most-cells (c .args .self .now .cells .now) (c .args .place) _ here (c .args .value) _ done;
-      rest = beyond-here most-cells (c .args .self .now .cells .now) (c .args .place) _ here (c .args .value) _ done;
-      lender = refl;
+      answer = stored-here most-cells cells place _ (here .1) (here .2);
+      after = set-here most-cells cells place _ (here .1) (here .2) value _ done;
+      rest = beyond-here most-cells cells place _ (here .1) (here .2) value _ done;
+      lender = refl {a = c .args .self .now .cells .name};
     }

@@ -2,7 +2,7 @@ use mathlib.Core.Path.{refl, ap, subst, _∙_}
 use lib.ListN.{length, length-set}
 use mathlib.Core.List.{_++_}
 use Rattle.std.proofs.shelf.Results.{err-from-errBy}
-use Rattle.memory.specs.Cells.{most-cells, counted}
+use Rattle.memory.specs.Cells.{most-cells, counted, beyond}
 use Rattle.memory.specs.Places.{Inside}
 use Rattle.memory.proofs.Places.{refused-store, unchanged-past, stored-first, stored-second}
 use Rattle.memory.proofs.Places.{set-first, set-second, rest-first, rest-second}
@@ -17,8 +17,8 @@ returns-in-Break-inner g c =
     record {
       answer = refused-store (counted (xs ++ ys)) (c .args .place) (p .1) (p .2) past;
       after = unchanged-past (counted (xs ++ ys)) (c .args .place) (c .args .value) past;
-      rest = refl;
-      seam = refl;
+      rest = refl {a = beyond (xs ++ ys)};
+      seam = refl {a = length xs};
     }
 
 pub returns-in-First : need.returns-in-First
@@ -46,5 +46,5 @@ returns-in-Second g c =
       answer = stored-second most-cells xs ys (c .args .place) (lies .0) (done .answer) right;
       after = set-second most-cells xs ys (c .args .place) (lies .0) (c .args .value) (done .after) right;
       rest = rest-second most-cells xs ys (c .args .place) (lies .0) (c .args .value) (done .after) right;
-      seam = refl;
+      seam = refl {a = length xs};
     }
