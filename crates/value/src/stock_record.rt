@@ -93,8 +93,6 @@ mod tests {
     use crate::fault::ValueFaultDebug;
     use crate::fault::ValueFaultPartialEq;
     use refusal::layer::Layer;
-    use refusal::layer::LayerDebug;
-    use refusal::layer::LayerPartialEq;
     use refusal::refusal::Refusal;
     use refusal::refusal::RefusalDebug;
     use refusal::refusal::RefusalPartialEq;
