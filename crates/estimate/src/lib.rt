@@ -1,4 +1,6 @@
 //! What an order for copies of a score costs, and how the paper for it is promised in the price book.
+#![tactic(auto)]
+
 pub mod book;
 pub mod fault;
 pub mod order;

@@ -1,4 +1,6 @@
 // Quotes a choir's orders from a price book, and prints each action as it does it.
+#![tactic(auto)]
+
 use anyhow::anyhow;
 use estimate::book::promise;
 use estimate::fault::OrderFault;
