@@ -2,8 +2,8 @@ use Rattle.std.proofs.Common.{◌*◌, ◌/◌, ap, arith}
 use Rattle.estimate.proofs.Shares.{share_le}
 use Rattle.estimate.proofs.quote.share.Goals as goal
 
-pub overflow-cast-result-3 : goal.overflow-cast-result-3
-overflow-cast-result-3 c = omega (arith, share_le c.args.price c.value.result c.value.ensures.most)
+pub overflow_cast-result-3 : goal.overflow_cast-result-3
+overflow_cast-result-3 c = omega (arith, share_le c.args.price c.value.result c.value.ensures.most)
 
 pub returns : goal.returns
 returns c = record {

@@ -2,8 +2,8 @@ use Rattle.std.proofs.Common.{◌≡◌, ◌+◌, ◌*◌, ◌/◌, ap, arith}
 use Rattle.estimate.proofs.Shares.{share_up_le}
 use Rattle.estimate.proofs.quote.spoilt_sheets.Goals as goal
 
-pub overflow-cast-result-3 : goal.overflow-cast-result-3
-overflow-cast-result-3 c = omega (arith, share_up_le c.args.needed c.value.result c.value.ensures.most)
+pub overflow_cast-result-3 : goal.overflow_cast-result-3
+overflow_cast-result-3 c = omega (arith, share_up_le c.args.needed c.value.result c.value.ensures.most)
 
 pub returns : goal.returns
 returns c =

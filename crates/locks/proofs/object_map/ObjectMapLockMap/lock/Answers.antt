@@ -14,8 +14,8 @@ returns-then-self-eq0 c =
       last = λ some. absurd (omega (arith, none, some));
     }
 
-pub starts-up-to-requires : goal.starts-up-to-requires
-starts-up-to-requires c =
+pub starts_up_to-requires : goal.starts_up_to-requires
+starts_up_to-requires c =
     counts_lawful c.args.self.now.starts.now (λ none. c.if-self-eq0.false (c.args.self.now.counts ∙ none))
 
 pub returns : goal.returns
@@ -23,8 +23,8 @@ returns c =
     let xs = c.args.self.now.starts.now in
     let fit : lawful xs ≡ true = counts_lawful xs (λ none. c.if-self-eq0.false (c.args.self.now.counts ∙ none)) in
     record {
-      told = guarded xs c.args.place _ fit c.starts-up-to.ensures.last;
+      told = guarded xs c.args.place _ fit c.starts_up_to.ensures.last;
       none = λ none. absurd (c.if-self-eq0.false (c.args.self.now.counts ∙ none));
-      below = λ some. omega (arith, c.starts-up-to.ensures.last.within, ap (λ b. cond b (length xs) 0) fit);
-      last = λ some. c.starts-up-to.ensures.last;
+      below = λ some. omega (arith, c.starts_up_to.ensures.last.within, ap (λ b. cond b (length xs) 0) fit);
+      last = λ some. c.starts_up_to.ensures.last;
     }

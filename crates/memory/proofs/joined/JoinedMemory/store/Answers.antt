@@ -6,12 +6,12 @@ use Rattle.memory.proofs.Places.{refused_store, unchanged_past, stored_first, st
 use Rattle.memory.proofs.Places.{set_first, set_second, rest_first, rest_second}
 use Rattle.memory.proofs.joined.JoinedMemory.store.Goals as goal
 
-pub returns-in-err-inner : goal.returns-in-err-inner
-returns-in-err-inner g c =
+pub returns-in_err-inner : goal.returns-in_err-inner
+returns-in_err-inner g c =
     let xs = g.A.Memory.cells c.args.self.now.first in
     let ys = g.B.Memory.cells c.args.self.now.second in
-    let p = err_from_is_err_and c.from-residual.result c.from-residual.ensures.1 in
-    let past = c.in-err-inner.ensures in
+    let p = err_from_is_err_and c.from_residual.result c.from_residual.ensures.1 in
+    let past = c.in_err-inner.ensures in
     record {
       answer = refused_store (counted (xs ++ ys)) c.args.place p.1 p.2 past;
       after = unchanged_past (counted (xs ++ ys)) c.args.place c.args.value past;
@@ -23,7 +23,7 @@ pub returns-in-First : goal.returns-in-First
 returns-in-First g c =
     let xs = g.A.Memory.cells c.args.self.now.first in
     let ys = g.B.Memory.cells c.args.self.now.second in
-    let lies = c.in-ok-inner.ensures in
+    let lies = c.in_ok-inner.ensures in
     let left = subst (Inside xs c.args.place) c.in-First.is lies.1 in
     let done = c.store.ensures in
     record {
@@ -37,7 +37,7 @@ pub returns-in-Second : goal.returns-in-Second
 returns-in-Second g c =
     let xs = g.A.Memory.cells c.args.self.now.first in
     let ys = g.B.Memory.cells c.args.self.now.second in
-    let lies = c.in-ok-inner.ensures in
+    let lies = c.in_ok-inner.ensures in
     let right = subst (Inside xs c.args.place) c.in-Second.is lies.1 in
     let done = c.store-in-Second.ensures in
     record {
