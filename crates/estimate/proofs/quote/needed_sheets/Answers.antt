@@ -5,6 +5,6 @@ pub returns : goal.returns
 returns c =
     let few : c.args.order.copies ≤ 65535 = omega arith in
     record {
-      value = ap (λ n. c.args.order.copies * n) c.sheets-a-copy.ensures.value;
-      bound = mul-le-mul few c.sheets-a-copy.ensures.bound;
+      value = ap (λ n. c.args.order.copies * n) c.sheets_a_copy.ensures.value;
+      bound = mul-le-mul few c.sheets_a_copy.ensures.bound;
     }
