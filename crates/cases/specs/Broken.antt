@@ -11,7 +11,7 @@ use Rattle.model.specs.declared.slot_state.SlotState.{SlotState}
 use Rattle.model.specs.declared.step.Step.{Step}
 use Rattle.model.specs.declared.step.Call.{Call}
 use Rattle.model.specs.declared.answer.Answer.{Answer}
-use Rattle.model.specs.Engine.{Parts, Entry, Slot, Engine, holds, first_stale}
+use Rattle.model.specs.Engine.{Parts, Entry, Engine, holds, first_stale}
 use Rattle.model.specs.Step.{Reply, in_state, answers, moves, locks}
 use Rattle.model.specs.Advance.{check_next, unlock_next}
 use Rattle.model.specs.Table.{verdict, open_row, closing_row, step}

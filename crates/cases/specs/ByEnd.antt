@@ -2,15 +2,13 @@
 --   has_committed s h     the job of slot s is committed
 --   line_by_end h         committed jobs in the order of their ends
 --   late_end              calls on which the two orders differ
---   ByEndRefuted        run alone in the order of their ends, the jobs do not answer the loads as the plain
+--   ByEndRefuted          run alone in the order of their ends, the jobs do not answer the loads as the plain
 --                         engine did, and in the order of their granted commits they do
 use Rattle.std.specs.Prelude.{ℕ, Bool, true, false, cond, List, [], ◌∷◌, ◌++◌, replicate, ◌==◌}
 use Rattle.model.specs.declared.step.Step.TheVariants.{Begin, Note, Load, Acquire, Store, Commit, Advance}
 use Rattle.model.specs.declared.step.Call.{Call}
-use Rattle.model.specs.Engine.{Parts}
-use Rattle.model.specs.Table.{Ran}
-use Rattle.model.specs.Event.{Deed, begins, notes, does, takes, validates, asks, quits, commits, frees, ends, nothing, Event, History, history}
-use Rattle.model.specs.Job.{Job, job}
+use Rattle.model.specs.Event.{Deed, begins, notes, does, takes, validates, asks, quits, commits, frees, ends, nothing, History, history}
+use Rattle.model.specs.Job.{job}
 use Rattle.model.specs.History.{Turn, line, in_turn}
 use Rattle.model.specs.Law.{Alone}
 use Rattle.cases.specs.Edges.{by}

@@ -5,7 +5,7 @@
 --   by s steps         these steps, all asked of slot s
 --   granted, refusals  answers that are no refusals, and answers that are
 --   seen, wanted       what the calls of an edge come to, and what they should come to
---   edges, EdgesHold  the ten, and that each comes to what it should
+--   edges, EdgesHold   the ten, and that each comes to what it should
 use Rattle.std.specs.Prelude.{◌≡◌, ℕ, zero, suc, ◌+◌, List, [], ◌∷◌, ◌++◌, map, replicate, Result}
 use Rattle.locks.specs.LineMap.{line_locks, line_guard}
 use Rattle.memory.specs.declared.fault.MemoryFault.{MemoryFault}
@@ -18,8 +18,8 @@ use Rattle.model.specs.declared.answer.Answer.{Answer}
 use Rattle.model.specs.declared.answer.Answer.TheVariants.{Begun, Own, Known, Noted, Value, Acquired, Stored, Good, Stale, Checking, Undoing, Passed, Restored, Unlocking, Released, Ended}
 use Rattle.model.specs.declared.fault.EngineFault.{EngineFault}
 use Rattle.model.specs.declared.fault.EngineFault.TheVariants.{NoSlot, WrongState, Memory, ReadSetFull, HeldListFull, UndoLogFull, LastVersion}
-use Rattle.model.specs.Engine.{Parts, Engine, fresh}
-use Rattle.model.specs.Table.{Done, Ran, run}
+use Rattle.model.specs.Engine.{Parts, fresh}
+use Rattle.model.specs.Table.{run}
 
 pub record Edge : Type 0 where
   pub parts : Parts

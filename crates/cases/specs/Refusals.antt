@@ -4,7 +4,7 @@
 --   taking, taken v       the steps of a job that takes the lock of place 9, and its answers, at the version v
 --   ten_cells             cells in which place p has the value p
 --   refusal_cases         four runs
---   RefusalsHold         each comes to what it should
+--   RefusalsHold          each comes to what it should
 use Rattle.std.specs.Prelude.{◌≡◌, ℕ, List, [], ◌∷◌, ◌++◌, map, replicate, Result}
 use Rattle.model.specs.declared.outcome.Outcome.{Outcome}
 use Rattle.model.specs.declared.slot_state.SlotState.{SlotState}

@@ -3,11 +3,11 @@
 --   one_place              parts with one lock
 --   last_answer t          what the last call of the trace t answers
 --   ran one calls          the run of these calls on a new engine, where one makes the step
---   KeepsLaw one calls    that run keeps the law
+--   KeepsLaw one calls     that run keeps the law
 --   Answers one calls a    its last call answers a
 --   dirty_check, dirty_commit, undone_check, overtaken_check       the calls
---   NeverLooksRefuted, OldVersionRefuted, OwnIsGoodRefuted  the broken engines do not keep the law
---   NeverLooksTells, OldVersionTells, OwnIsGoodTells        what they and the plain engine answer
+--   NeverLooksRefuted, OldVersionRefuted, OwnIsGoodRefuted         the broken engines do not keep the law
+--   NeverLooksTells, OldVersionTells, OwnIsGoodTells               what they and the plain engine answer
 use Rattle.std.specs.Prelude.{◌≡◌, ℕ, List, [], ◌∷◌, ◌++◌, replicate, Option, Result}
 use Rattle.model.specs.declared.step.Step.TheVariants.{Begin, Note, Load, Acquire, Store, Check, Commit, Advance, Abort}
 use Rattle.model.specs.declared.step.Call.{Call}

@@ -3,7 +3,7 @@
 --   told_first b   what a new engine of these answers to a slot that there is not, and to a wrong step
 --   called f       what it should answer
 --   builds         each of the parts at the edges of its range, with the later ones unfit too
---   UnfitTold     each comes to what it should
+--   UnfitTold      each comes to what it should
 use Rattle.std.specs.Prelude.{◌≡◌, ℕ, List, [], ◌∷◌, ◌++◌, map, replicate, Option, Result}
 use Rattle.model.specs.declared.slot_state.SlotState.{SlotState}
 use Rattle.model.specs.declared.step.Step.TheVariants.{Begin, Advance}

@@ -5,8 +5,8 @@
 --   object_locks starts      how many locks the map counts
 --   begun p starts           how many of the starts, from the first on, are not above p
 --   object_guard starts p    the lock of place p
---   LastStart starts p i    i is the index of the last start not above p
-use Rattle.std.specs.Prelude.{ℕ, ◌+◌, ◌-◌, ◌<◌, ◌≤◌, Bool, true, false, cond, ◌&&◌, List, [], ◌∷◌, length, ◌==◌, nat_le, nat_lt, slice_index, slice_index_or}
+--   LastStart starts p i     i is the index of the last start not above p
+use Rattle.std.specs.Prelude.{ℕ, ◌+◌, ◌-◌, ◌<◌, ◌≤◌, Bool, true, false, cond, ◌&&◌, List, [], ◌∷◌, length, ◌==◌, nat_le, nat_lt, slice_index}
 
 -- no lawful list has more starts
 abbrev pub most_objects : ℕ
@@ -39,5 +39,5 @@ object_guard starts place = cond (lawful starts) (begun place starts - 1) 0
 -- i is the index of the last start not above the place
 pub record LastStart (starts : List ℕ) (place i : ℕ) : Type 0 where
   pub within : i < length starts
-  pub begins : slice_index_or starts i 0 ≤ place
+  pub begins : slice_index starts i ≤ place
   pub later : (k : ℕ) → i < k → k < length starts → place < slice_index starts k

@@ -9,7 +9,7 @@ use Rattle.model.specs.Engine.{Parts, Entry, Slot, updated, has_lock}
 use Rattle.model.specs.Step.{in_state}
 use Rattle.model.specs.Event.{asks, quits, commits, nothing}
 use Rattle.model.specs.Job.{Job, job_after, counted, job}
-use Rattle.model.specs.History.{Turn, marked, line, held}
+use Rattle.model.specs.History.{Turn, marked, line}
 use Rattle.model.proofs.Tables.{updated_here, nth_none, lock_found}
 use Rattle.model.proofs.Place.{then, here}
 use Rattle.model.proofs.Line.{View, Present, Along, waits_own}

@@ -13,7 +13,7 @@ use Rattle.model.specs.History.{waits, without, line, held}
 use Rattle.model.proofs.Tables.{updated_here, updated_there, updated_each, nth_set_there}
 use Rattle.model.proofs.Place.{here}
 use Rattle.model.proofs.LineMoves.{but, present_without, along_steady, along_without}
-use Rattle.model.proofs.Locks.{Status, unheld, taken, word, version, Owner, Moves}
+use Rattle.model.proofs.Locks.{Status, unheld, taken, word, Owner, Moves}
 use Rattle.model.proofs.States.{Busy, Live, Logs, WaitsIn, ChecksIn, Kept, Left, Ends}
 use Rattle.model.proofs.Invariant.{Saved, World, unwound, log_of, Table, slot_at, cell_at, status_at, base_at, view_at, Ranged, Invariant, logged_with}
 use Rattle.model.proofs.Carry.{Goes, OwnSteady, present_there, steady_left, carry, carry_steady}

@@ -13,7 +13,7 @@ use Rattle.model.specs.Limits.{slot_count, most_reads, most_held, most_records}
 use Rattle.model.specs.Engine.{Parts, Entry, Engine, read_word, has_lock, holds, good, unfit}
 use Rattle.model.specs.Step.{Reply, where_cell, where_free, own, note, load, acquire, store}
 use Rattle.model.specs.Advance.{check_next, undo_next, unlock_next}
-use Rattle.model.specs.Table.{is_advance, free_row, open_row, closing_row, row, where_fit, step}
+use Rattle.model.specs.Table.{is_advance, free_row, open_row, closing_row, row, where_fit}
 use Rattle.model.specs.Law.{RefusalsChangeNothing}
 
 module _ {V : Type 0} (parts : Parts) (engine : Engine V) where

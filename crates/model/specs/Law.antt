@@ -4,9 +4,9 @@
 --   At h past         past is what had happened at some time in the history h
 --   Law g first last h         the law, of a history
 --   Lawful g first last trace  the law, of calls with their answers
---   EveryRunLawful V         every run of the plain engine keeps it
---   WordsInRange V           versions stay within the limit, after every run
---   RefusalsChangeNothing V  a call that the plain engine refuses leaves it as it was
+--   EveryRunLawful V           every run of the plain engine keeps it
+--   WordsInRange V             versions stay within the limit, after every run
+--   RefusalsChangeNothing V    a call that the plain engine refuses leaves it as it was
 use Rattle.std.specs.Prelude.{◌≡◌, ℕ, ◌<◌, ◌≤◌, true, false, List, [], ◌∷◌, ◌++◌, Option, Result, slice_set}
 use Rattle.std.specs.List.{slice_get}
 use Rattle.locks.specs.LockWord.{word_of}

@@ -56,6 +56,8 @@ pub trait Kind: Copy {
 #[cfg(test)]
 mod tests {
     use super::*;
+    use crate::number::Number;
+    use crate::stock_record::StockRecord;
 
     // Builds a value and gives one of its parts. That it is the part given follows for every kind from
     // the laws alone.
@@ -70,14 +72,8 @@ mod tests {
 
     #[test]
     fn parts_of_a_built_value_are_those_given(rt: HostRuntime) {
-        assert_eq!(rt; part_back::<crate::number::Number>(&[77], 0), Some(77));
-        assert_eq!(rt;
-            part_back::<crate::stock_record::StockRecord>(&[9, 8, 7], 1),
-            Some(8)
-        );
-        assert_eq!(rt;
-            part_back::<crate::stock_record::StockRecord>(&[8, 9, 7], 1),
-            None
-        );
+        assert_eq!(rt; part_back::<Number>(&[77], 0), Some(77));
+        assert_eq!(rt; part_back::<StockRecord>(&[9, 8, 7], 1), Some(8));
+        assert_eq!(rt; part_back::<StockRecord>(&[8, 9, 7], 1), None);
     }
 }
