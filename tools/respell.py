@@ -4,16 +4,28 @@
     python3 tools/respell.py        at the top of the repository
 
 A name that begins with a small letter is put in snake case, one that begins with a capital in camel case; only the
-lemmas below, which are named by the left side of their equation, keep their hyphens. Names are those that specs/ and
-proofs/ declare or bind. Names of the library and names that the check makes (goals, steps) stay as they are, and so
-do functions, strings, inputs and outputs. Where two names would fall together, nothing is written.
+lemmas below get names of their own. Names are those that specs/ and proofs/ declare or bind. Names of the library and
+names that the check makes (goals, steps) stay as they are, and so do functions, strings, inputs and outputs. Where two
+names would fall together, nothing is written. Run again, it changes nothing.
 """
 import pathlib
 import re
 import sys
 
-# Lemmas named by the left side of their equation, the outer call first.
-KEPT = {"nth-take", "nth-append-right", "fits-append", "gets-append"}
+# Lemmas about the library's `nth`, which is now `slice_get`, and lemmas that are named by the left side of their
+# equation, the outer call first: these have a hyphen between the calls.
+LEMMAS = {
+    "nth_take": "slice_get-take",
+    "nth_append_right": "slice_get-append_right",
+    "nth_some": "slice_get_some",
+    "nth_none": "slice_get_none",
+    "nth_there": "slice_get_there",
+    "nth_push": "slice_get_push",
+    "nth_set_here": "slice_get-set_here",
+    "nth_set_there": "slice_get-set_there",
+    "then_append": "then-append",
+    "here_append": "here-append",
+}
 
 WORD = re.compile(r"[^\s(){}\[\],;.:=λ→×≡∷⟦⟧]+")
 IMPORT = re.compile(r"^\s*(?:pub )?(?:ghost )?use\s+(\S+?)\.\{([^}]*)\}", re.M)
@@ -37,6 +49,10 @@ def imported(text):
 
 def respelled(name):
     """The name in today's spelling."""
+    if name.replace("-", "_") in LEMMAS:
+        return LEMMAS[name.replace("-", "_")]
+    if name in LEMMAS.values():
+        return name
     if name[0].isupper():
         return "".join(part[0].upper() + part[1:] for part in name.split("-"))
     return name.replace("-", "_")
@@ -51,8 +67,8 @@ def main():
         foreign |= imported(f.read_text())
     for f in lemma_files:
         words |= {w for w in WORD.findall(code_of(f.read_text()))}
-    names = {w for w in words if re.fullmatch(r"[A-Za-z]\w*'?(-\w+'?)+", w)} - foreign - KEPT
-    table = {name: respelled(name) for name in sorted(names)}
+    names = {w for w in words if w in LEMMAS or re.fullmatch(r"[A-Za-z]\w*'?(-\w+'?)+", w)} - foreign
+    table = {name: respelled(name) for name in sorted(names) if respelled(name) != name}
 
     taken = {}
     for old, new in table.items():
@@ -61,7 +77,7 @@ def main():
     if clashes:
         sys.exit("names that fall together:\n  " + "\n  ".join(clashes))
 
-    one = re.compile(r"[A-Za-z]\w*'?(?:-\w+'?)+")
+    one = re.compile(r"[A-Za-z]\w*'?(?:-\w+'?)*")
     changed = 0
     sources = [f for f in pathlib.Path("crates").rglob("*") if "out" not in f.parts]
     for f in sorted(sources):

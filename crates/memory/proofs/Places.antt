@@ -41,19 +41,19 @@ module _ {V : Type 0} where
   stored_within cs p h = search rules
 
   -- the first n cells answer as all do
-  nth-take : (n : ℕ) (cs : List V) (p : ℕ) → p < n → slice_get (take n cs) p ≡ slice_get cs p
-  nth-take zero cs p h = absurd (omega arith)
-  nth-take (suc n) [] p h = refl
-  nth-take (suc n) (c ∷ cs) zero h = refl
-  nth-take (suc n) (c ∷ cs) (suc p) h = nth-take n cs p (omega arith)
+  slice_get-take : (n : ℕ) (cs : List V) (p : ℕ) → p < n → slice_get (take n cs) p ≡ slice_get cs p
+  slice_get-take zero cs p h = absurd (omega arith)
+  slice_get-take (suc n) [] p h = refl
+  slice_get-take (suc n) (c ∷ cs) zero h = refl
+  slice_get-take (suc n) (c ∷ cs) (suc p) h = slice_get-take n cs p (omega arith)
 
-  nth_some : (cs : List V) (p : ℕ) → p < length cs → (v : V) × (slice_get cs p ≡ Some v)
-  nth_some [] p h = absurd (omega arith)
-  nth_some (c ∷ cs) zero h = (c, refl)
-  nth_some (c ∷ cs) (suc p) h = nth_some cs p (omega arith)
+  slice_get_some : (cs : List V) (p : ℕ) → p < length cs → (v : V) × (slice_get cs p ≡ Some v)
+  slice_get_some [] p h = absurd (omega arith)
+  slice_get_some (c ∷ cs) zero h = (c, refl)
+  slice_get_some (c ∷ cs) (suc p) h = slice_get_some cs p (omega arith)
 
-  nth-append-right : (xs ys : List V) (p : ℕ) → length xs ≤ p → slice_get (xs ++ ys) p ≡ slice_get ys (p - length xs)
-  nth-append-right xs ys p right =
+  slice_get-append_right : (xs ys : List V) (p : ℕ) → length xs ≤ p → slice_get (xs ++ ys) p ≡ slice_get ys (p - length xs)
+  slice_get-append_right xs ys p right =
       let e : p ≡ length xs + (p - length xs) = omega arith in
       ap (slice_get (xs ++ ys)) e ∙ nth_right xs ys (p - length xs)
 
@@ -76,7 +76,7 @@ module _ {V : Type 0} (n : ℕ) (cells : List V) (p i : ℕ) (same : i ≡ p) (w
 
   pub loaded_here : (v : V) → slice_get cells i ≡ Some v → Ok v ≡ loaded (take n cells) p
   loaded_here v read =
-      sym (loaded_within (take n cells) p v (nth-take n cells p below_first ∙ ap (slice_get cells) (sym same) ∙ read))
+      sym (loaded_within (take n cells) p v (slice_get-take n cells p below_first ∙ ap (slice_get cells) (sym same) ∙ read))
 
   pub stored_here : Ok tt ≡ stored (take n cells) p
   stored_here = sym (stored_within (take n cells) p within)
@@ -95,7 +95,7 @@ module _ {V : Type 0} (n : ℕ) (xs ys : List V) (p : ℕ) (within : p < length 
   below = omega (arith, length-take n (xs ++ ys))
 
   taken_at : slice_get (take n (xs ++ ys)) p ≡ slice_get (xs ++ ys) p
-  taken_at = nth-take n (xs ++ ys) p below
+  taken_at = slice_get-take n (xs ++ ys) p below
 
   in_second : length xs ≤ p → p - length xs < length ys
   in_second right = omega (arith, length-take n (xs ++ ys), length-append xs ys)
@@ -108,9 +108,9 @@ module _ {V : Type 0} (n : ℕ) (xs ys : List V) (p : ℕ) (within : p < length 
   pub loaded_second : {r : Result V MemoryFault} {i : ℕ} → r ≡ loaded ys i → Inside xs p (Second i)
       → r ≡ loaded (take n (xs ++ ys)) p
   loaded_second done right =
-      let cell = nth_some ys (p - length xs) (in_second right.1) in
+      let cell = slice_get_some ys (p - length xs) (in_second right.1) in
       done ∙ ap (loaded ys) right.0 ∙ loaded_within ys (p - length xs) cell.0 cell.1
-      ∙ sym (loaded_within (take n (xs ++ ys)) p cell.0 (taken_at ∙ nth-append-right xs ys p right.1 ∙ cell.1))
+      ∙ sym (loaded_within (take n (xs ++ ys)) p cell.0 (taken_at ∙ slice_get-append_right xs ys p right.1 ∙ cell.1))
 
   pub stored_first : {r : Result Unit MemoryFault} {i : ℕ} → r ≡ stored xs i → Inside xs p (First i)
       → r ≡ stored (take n (xs ++ ys)) p

@@ -23,7 +23,7 @@ pub trait Memory {
         ensures { result ≡ loaded (cells self.now) place };
 
     // Puts a value into the cell at a place, and touches no other. Refused exactly at or past the
-    // count, and then nothing changes (`set` past the end of a list gives the list).
+    // count, and then nothing changes (`slice_set` past the end of a list gives the list).
     fn store(&mut self, place: u32, value: Self::Value) -> Result<(), MemoryFault>
         ensures answer { result ≡ stored (cells self.old) place }
         ensures after { cells self.new ≡ slice_set (cells self.old) place value };

@@ -21,7 +21,7 @@ use Rattle.model.specs.Job.{Closing, Job, job_after, counted, job}
 use Rattle.model.specs.History.{line, in_turn}
 use Rattle.model.specs.Law.{Alone}
 use Rattle.model.proofs.Tables.{lock_found}
-use Rattle.model.proofs.Place.{Act, Fits, here, fits-append, here_append, alone_here}
+use Rattle.model.proofs.Place.{Act, Fits, here, fits_append, here-append, alone_here}
 use Rattle.model.proofs.Line.{along_fits}
 use Rattle.model.proofs.Locks.{Status, unheld, taken, word, Owner, Current, owner_tested, free_tested, read_free, read_held}
 use Rattle.model.proofs.States.{Busy, Live, Kept, Logs, Ends}
@@ -33,10 +33,10 @@ use Rattle.model.proofs.Checking.{commit_asked, abort_asked, entry_passed, entry
 use Rattle.model.proofs.Ending.{undone, restored, released, ended}
 
 -- look-ups that succeed
-nth_there : {A : Type 0} (xs : List A) (i : ℕ) → i < length xs → (x : A) × (slice_get xs i ≡ Option.Some x)
-nth_there [] i below = absurd (omega arith)
-nth_there (x ∷ xs) zero below = (x, refl)
-nth_there (x ∷ xs) (suc i) below = nth_there xs i (omega arith)
+slice_get_there : {A : Type 0} (xs : List A) (i : ℕ) → i < length xs → (x : A) × (slice_get xs i ≡ Option.Some x)
+slice_get_there [] i below = absurd (omega arith)
+slice_get_there (x ∷ xs) zero below = (x, refl)
+slice_get_there (x ∷ xs) (suc i) below = slice_get_there xs i (omega arith)
 
 entry_found : (xs : List Entry) (x : Entry) → has_entry xs x ≡ true
     → (i : ℕ) × (y : Entry) × (slice_get xs i ≡ Option.Some y) × (y.lock ≡ x.lock) × (y.version ≡ x.version)
@@ -268,8 +268,8 @@ module _ {V : Type 0} (parts : Parts) (first : List V) (w : World V) (inv : Inva
         let so_far = along_fits (view_at parts w p) p (slice_get first p) (line w.past) (inv.along p) in
         let o = here p (in_turn (line w.past)) in
         subst (λ (z : List (Act V)). Fits z (slice_get first p))
-        (sym (here_append p (in_turn (line w.past)) (job s w.past).ops))
-        (fits-append o (acts_at w s p) (slice_get first p) so_far.0
+        (sym (here-append p (in_turn (line w.past)) (job s w.past).ops))
+        (fits_append o (acts_at w s p) (slice_get first p) so_far.0
         (subst (Fits (acts_at w s p)) so_far.1 (fits p)))
       where
         live : Live own.state
@@ -363,7 +363,7 @@ module _ {V : Type 0} (parts : Parts) (first : List V) (w : World V) (inv : Inva
           → Next Step.Advance (undo_next engine s (p ∷ older))
       put p older [] newest logs all = absurd all
       put p older (r ∷ log) newest logs all =
-          let cell = nth_there engine.cells p all.3 in
+          let cell = slice_get_there engine.cells p all.3 in
           cell_there (Next Step.Advance) (undo_place s (length older))
           (slice_get engine.undo (undo_place s (length older))) _ r.old all.1
           (cell_there (Next Step.Advance) p (slice_get engine.cells p) _ cell.0 cell.1

@@ -10,8 +10,8 @@ use Rattle.model.specs.Step.{holding, recording}
 use Rattle.model.specs.Event.{stores, does, takes}
 use Rattle.model.specs.Job.{Job, job_after, job}
 use Rattle.model.specs.History.{held}
-use Rattle.model.proofs.Tables.{updated_here, updated_there, updated_each, nth_push, nth_set_here, nth_set_there}
-use Rattle.model.proofs.Place.{Act, puts, over, here, then_append, fits-append, then_gets}
+use Rattle.model.proofs.Tables.{updated_here, updated_there, updated_each, slice_get_push, slice_get-set_here, slice_get-set_there}
+use Rattle.model.proofs.Place.{Act, puts, over, here, then-append, fits_append, then_gets}
 use Rattle.model.proofs.Locks.{Status, unheld, taken, word, version, Owner, Current, Moves, stays, takes, not_both, moves_version}
 use Rattle.model.proofs.States.{Busy, Live, Logs, Kept}
 use Rattle.model.proofs.Invariant.{Saved, World, Fair, unwound, log_of, Table, slot_at, cell_at, acts_at, status_at, base_at, fair_at, Invariant, table_with}
@@ -77,15 +77,15 @@ module _ {V : Type 0} (parts : Parts) (first : List V) (w : World V) (s : ℕ) (
           (held_before i x was kept) ∙ t.owns i x was kept)
           (λ new. subst (λ (z : Entry). status' z.lock ≡ taken s z.version) new.1
           (updated_here w.status lock (taken s v)))
-          (nth_push own.held entry i x at);
+          (slice_get_push own.held entry i x at);
       once = λ i k x y at_i at_k kept_i kept_k same. ⊎_elim
           (λ was_i. ⊎_elim (λ was_k. t.once i k x y was_i was_k kept_i kept_k same)
           (λ new_k. absurd (held_before i x was_i kept_i (same ∙ sym (ap (λ (z : Entry). z.lock) new_k.1))))
-          (nth_push own.held entry k y at_k))
+          (slice_get_push own.held entry k y at_k))
           (λ new_i. ⊎_elim
           (λ was_k. absurd (held_before k y was_k kept_k (sym same ∙ sym (ap (λ (z : Entry). z.lock) new_i.1))))
-          (λ new_k. new_i.0 ∙ sym new_k.0) (nth_push own.held entry k y at_k))
-          (nth_push own.held entry i x at_i);
+          (λ new_k. new_i.0 ∙ sym new_k.0) (slice_get_push own.held entry k y at_k))
+          (slice_get_push own.held entry i x at_i);
       old = λ l i x at.
           let was = t.old l i x at in
           let up = moves_version s (w.status x.lock) (status' x.lock)
@@ -206,7 +206,7 @@ module _ {V : Type 0} (parts : Parts) (first : List V) (w : World V) (s : ℕ) (
             (log_of w.logs k) p (cell_at w p)
         other_base none =
             ap (λ z. unwound z p (slice_get cells' p)) (log_kept w.logs s log' k none)
-            ∙ ap (unwound (log_of w.logs k) p) (nth_set_there w.engine.cells q p new (other_place p none))
+            ∙ ap (unwound (log_of w.logs k) p) (slice_get-set_there w.engine.cells q p new (other_place p none))
 
     goes_stored : Goes parts w stored_world s (by s false true (does (stores q new)))
         (recording (q ∷ own.changed) own) log' (job_after (does (stores q new)) j)
@@ -214,9 +214,9 @@ module _ {V : Type 0} (parts : Parts) (first : List V) (w : World V) (s : ℕ) (
         goes_cells parts first w s inv false true (does (stores q new)) cells' undo'
         (recording (q ∷ own.changed) own) log'
         (length-set w.engine.cells q new) (length-set w.engine.undo (undo_place s n) old)
-        (λ t k ne below. nth_set_there w.engine.undo (undo_place s n) (undo_place t k) old
+        (λ t k ne below. slice_get-set_there w.engine.undo (undo_place s n) (undo_place t k) old
         (undo_apart s t n k ne room below))
-        (λ p. ⊎_elim (λ o. inr o) (λ none. inl (nth_set_there w.engine.cells q p new (other_place p none)))
+        (λ p. ⊎_elim (λ o. inr o) (λ none. inl (slice_get-set_there w.engine.cells q p new (other_place p none)))
         (owner_or_not s (status_at parts w p)))
         (λ p. inl (bases_stored p))
 
@@ -235,13 +235,13 @@ module _ {V : Type 0} (parts : Parts) (first : List V) (w : World V) (s : ℕ) (
       logged = λ logs. (
         (
           refl,
-          nth_set_here w.engine.undo (undo_place s n) old inside,
+          slice_get-set_here w.engine.undo (undo_place s n) old inside,
           mine,
           (let same = length-set w.engine.cells q new in let below = within in omega arith),
           logged_kept parts (length w.engine.cells) (length cells') w.engine.undo undo' w.status
               w.status s (w.logs s) own.changed
               (length-set w.engine.cells q new)
-              (λ k below. nth_set_there w.engine.undo (undo_place s n) (undo_place s k)
+              (λ k below. slice_get-set_there w.engine.undo (undo_place s n) (undo_place s k)
               old (λ same. omega arith))
               (λ _ o. o) (t.logged logs).0,
         ),
@@ -268,7 +268,7 @@ module _ {V : Type 0} (parts : Parts) (first : List V) (w : World V) (s : ℕ) (
         ⊎_elim (λ is. subst AtPlace (sym is) here_fair)
         (λ ne. subst (λ (z : Option V). Fair s (parts.guard p) own.reads (status_at parts w p)
         (here p (j.ops ++ (stores q new ∷ []))) (base_at parts w p) z)
-        (sym (nth_set_there w.engine.cells q p new (λ is. ne (sym is))))
+        (sym (slice_get-set_there w.engine.cells q p new (λ is. ne (sym is))))
         (subst (λ (o : List (Act V)). Fair s (parts.guard p) own.reads (status_at parts w p) o
         (base_at parts w p) (cell_at w p))
         (sym (elsewhere_stored q j.ops new p ne)) (inv.jobs s p l))) (cases_eq p q)
@@ -292,10 +292,10 @@ module _ {V : Type 0} (parts : Parts) (first : List V) (w : World V) (s : ℕ) (
             subst (λ (z : List (Act V)). Fair s (parts.guard q) own.reads (status_at parts w q) z b
             (slice_get cells' q)) (sym (here_stored q j.ops new))
             (record {
-              sound = λ so. fits-append o (puts new ∷ []) b (f.sound so) tt;
-              unnoted = λ none. fits-append o (puts new ∷ []) b (f.unnoted none) tt;
-              owned = λ own_lock. then_append o (puts new ∷ []) b ∙ ap (λ z. over z new) (f.owned own_lock ∙ cell)
-                  ∙ sym (nth_set_here w.engine.cells q new within);
+              sound = λ so. fits_append o (puts new ∷ []) b (f.sound so) tt;
+              unnoted = λ none. fits_append o (puts new ∷ []) b (f.unnoted none) tt;
+              owned = λ own_lock. then-append o (puts new ∷ []) b ∙ ap (λ z. over z new) (f.owned own_lock ∙ cell)
+                  ∙ sym (slice_get-set_here w.engine.cells q new within);
               unowned = λ none. absurd (none mine);
               untouched = λ _ none. absurd (none mine);
             })

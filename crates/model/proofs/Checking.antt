@@ -10,7 +10,7 @@ use Rattle.model.specs.Step.{in_state}
 use Rattle.model.specs.Event.{asks, quits, commits, nothing}
 use Rattle.model.specs.Job.{Job, job_after, counted, job}
 use Rattle.model.specs.History.{Turn, marked, line}
-use Rattle.model.proofs.Tables.{updated_here, nth_none, lock_found}
+use Rattle.model.proofs.Tables.{updated_here, slice_get_none, lock_found}
 use Rattle.model.proofs.Place.{then, here}
 use Rattle.model.proofs.Line.{View, Present, Along, waits_own}
 use Rattle.model.proofs.LineMoves.{Newly, but, joined, present_push, present_last, present_marked, absent_here, along_steady, along_push}
@@ -248,7 +248,7 @@ module _ {V : Type 0} (parts : Parts) (first : List V) (w : World V) (s : ℕ) (
       all_passed p has =
           let f = lock_found own.reads (parts.guard p) has in
           let below = slice_get_within own.reads f.0 f.1 f.2 in
-          let most = nth_none own.reads i end in
+          let most = slice_get_none own.reads i end in
           record {
             index = f.0;
             entry = f.1;

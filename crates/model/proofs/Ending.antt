@@ -10,7 +10,7 @@ use Rattle.model.specs.Step.{in_state, recording}
 use Rattle.model.specs.Event.{frees, ends, nothing}
 use Rattle.model.specs.Job.{Job, job_after, counted, one_more, job}
 use Rattle.model.specs.History.{waits, without, line, held}
-use Rattle.model.proofs.Tables.{updated_here, updated_there, updated_each, nth_set_there}
+use Rattle.model.proofs.Tables.{updated_here, updated_there, updated_each, slice_get-set_there}
 use Rattle.model.proofs.Place.{here}
 use Rattle.model.proofs.LineMoves.{but, present_without, along_steady, along_without}
 use Rattle.model.proofs.Locks.{Status, unheld, taken, word, Owner, Moves}
@@ -109,7 +109,7 @@ module _ {V : Type 0} (parts : Parts) (first : List V) (w : World V) (s : ℕ) (
               (log_of w.logs k) p (cell_at w p)
           other_base none =
               ap (λ z. unwound z p (slice_get cells' p)) (log_kept w.logs s log k none)
-              ∙ ap (unwound (log_of w.logs k) p) (nth_set_there w.engine.cells q p
+              ∙ ap (unwound (log_of w.logs k) p) (slice_get-set_there w.engine.cells q p
               r.old (other_place p none))
 
       table_restored : Table parts (length cells') w.engine.undo w.status s
@@ -148,7 +148,7 @@ module _ {V : Type 0} (parts : Parts) (first : List V) (w : World V) (s : ℕ) (
           (length-set w.engine.cells q r.old) refl
           (λ _ _ _ _. refl)
           (λ p. ⊎_elim (λ o. inr o)
-          (λ none. inl (nth_set_there w.engine.cells q p r.old (other_place p none)))
+          (λ none. inl (slice_get-set_there w.engine.cells q p r.old (other_place p none)))
           (owner_or_not s (status_at parts w p)))
           (λ p. inl (bases_restored p))) bases_restored refl table_restored
           (λ p l. absurd (subst Live is_undoing l))

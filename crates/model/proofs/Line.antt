@@ -5,7 +5,7 @@
 use Rattle.std.proofs.Common.{◌≡◌, ℕ, Bool, true, false, cond, not, eqb, ◌⊎◌, List, [], ◌∷◌, ◌++◌, Option, sym, refl, ap, ◌∙◌, subst, arith}
 use Rattle.std.proofs.lemmas.Bool.{eqb-true, eq-eqb, and_parts}
 use Rattle.model.specs.History.{Turn, waits, in_turn}
-use Rattle.model.proofs.Place.{Act, then, Fits, here, then_append, fits-append, here_append}
+use Rattle.model.proofs.Place.{Act, then, Fits, here, then-append, fits_append, here-append}
 
 pub record View (V : Type 0) : Type 1 where
   -- the value at the place after the committed jobs
@@ -125,9 +125,9 @@ module _ {V : Type 0} where
           × (v.base ≡ then (here p (cond b t.ops [] ++ in_turn rest)) x)
       go true later both =
           let more = later (then o x) both.1 in
-          let split = here_append p t.ops (in_turn rest) in (
-            subst (λ (z : List (Act V)). Fits z x) (sym split) (fits-append o (here p (in_turn rest)) x both.0
+          let split = here-append p t.ops (in_turn rest) in (
+            subst (λ (z : List (Act V)). Fits z x) (sym split) (fits_append o (here p (in_turn rest)) x both.0
                 more.0),
-            more.1 ∙ sym (ap (λ (z : List (Act V)). then z x) split ∙ then_append o (here p (in_turn rest)) x),
+            more.1 ∙ sym (ap (λ (z : List (Act V)). then z x) split ∙ then-append o (here p (in_turn rest)) x),
           )
       go false later both = later x both.1

@@ -6,7 +6,7 @@ use Rattle.std.proofs.lemmas.Bool.{eqb-true, eqb-false, ne_eqb, cond_both, cond-
 use Rattle.model.specs.declared.fault.EngineFault.{EngineFault}
 use Rattle.model.specs.Limits.{most_cells, least_undo, most_records, undo_place}
 use Rattle.model.specs.Engine.{Parts, updated, unfit}
-use Rattle.model.proofs.Tables.{updated_there, nth_set_here, nth_set_there}
+use Rattle.model.proofs.Tables.{updated_there, slice_get-set_here, slice_get-set_there}
 use Rattle.model.proofs.Locks.{Status, unheld, taken, Owner, one_owner, not_both}
 use Rattle.model.proofs.Invariant.{Saved, unwound, log_of, Logged}
 
@@ -50,14 +50,14 @@ module _ {V : Type 0} where
       → cond (eqb q p) (Option.Some old) (slice_get (set cells q new) p) ≡ slice_get cells p
   undone_store cells q p old new was =
       cond_both (eqb q p) (Option.Some old) (slice_get (set cells q new) p) (λ (z : Option V). z ≡ slice_get cells p)
-      (λ e. sym was ∙ ap (slice_get cells) (eqb-true q p e)) (λ e. nth_set_there cells q p new (eqb-false q p e))
+      (λ e. sym was ∙ ap (slice_get cells) (eqb-true q p e)) (λ e. slice_get-set_there cells q p new (eqb-false q p e))
 
   pub put_back : (cells : List V) (q p : ℕ) (old : V) → q < length cells
       → slice_get (set cells q old) p ≡ cond (eqb q p) (Option.Some old) (slice_get cells p)
   put_back cells q p old within =
       cond_both (eqb q p) (Option.Some old) (slice_get cells p) (λ (z : Option V). slice_get (set cells q old) p ≡ z)
-      (λ e. ap (slice_get (set cells q old)) (sym (eqb-true q p e)) ∙ nth_set_here cells q old within)
-      (λ e. nth_set_there cells q p old (eqb-false q p e))
+      (λ e. ap (slice_get (set cells q old)) (sym (eqb-true q p e)) ∙ slice_get-set_here cells q old within)
+      (λ e. slice_get-set_there cells q p old (eqb-false q p e))
 
   module _ (parts : Parts) where
     -- no record is of a place whose lock the slot does not own

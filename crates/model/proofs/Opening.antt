@@ -10,8 +10,8 @@ use Rattle.model.specs.Step.{noting}
 use Rattle.model.specs.Event.{Op, loads, stores, Deed, begins, notes, does}
 use Rattle.model.specs.Job.{Job, job_after, counted, job}
 use Rattle.model.specs.History.{line, held}
-use Rattle.model.proofs.Tables.{nth_push, lock_pushed}
-use Rattle.model.proofs.Place.{Act, gets, puts, then, Fits, here, then_append, fits-append, gets-append, then_gets, here_append}
+use Rattle.model.proofs.Tables.{slice_get_push, lock_pushed}
+use Rattle.model.proofs.Place.{Act, gets, puts, then, Fits, here, then-append, fits_append, gets_append, then_gets, here-append}
 use Rattle.model.proofs.Locks.{unheld, version, Owner, not_both}
 use Rattle.model.proofs.States.{Live, Logs, WaitsIn, ChecksIn, Ends}
 use Rattle.model.proofs.Invariant.{Saved, World, Sound, Fair, unwound, log_of, slot_at, cell_at, acts_at, status_at, base_at, fair_at, Clean, Invariant, logged_with, table_with, fair_with}
@@ -22,23 +22,23 @@ use Rattle.model.proofs.Worlds.{by, same_world, slot_world, goes_same, goes_slot
 module _ {V : Type 0} (q : ℕ) (ops : List (Op V)) (x : V) where
   pub here_loaded : here q (ops ++ (loads q x ∷ [])) ≡ here q ops ++ (gets x ∷ [])
   here_loaded =
-      here_append q ops (loads q x ∷ [])
+      here-append q ops (loads q x ∷ [])
       ∙ ap (λ z. here q ops ++ z) (cond-true (eqb q q) (gets x ∷ []) [] (eq-eqb q q refl))
 
   pub here_stored : here q (ops ++ (stores q x ∷ [])) ≡ here q ops ++ (puts x ∷ [])
   here_stored =
-      here_append q ops (stores q x ∷ [])
+      here-append q ops (stores q x ∷ [])
       ∙ ap (λ z. here q ops ++ z) (cond-true (eqb q q) (puts x ∷ []) [] (eq-eqb q q refl))
 
   pub elsewhere_loaded : (p : ℕ) → (p ≡ q → ⊥) → here p (ops ++ (loads q x ∷ [])) ≡ here p ops
   elsewhere_loaded p ne =
-      here_append p ops (loads q x ∷ [])
+      here-append p ops (loads q x ∷ [])
       ∙ ap (λ z. here p ops ++ z) (cond-false (eqb q p) (gets x ∷ []) [] (ne_eqb q p (λ e. ne (sym e))))
       ∙ append-nil (here p ops)
 
   pub elsewhere_stored : (p : ℕ) → (p ≡ q → ⊥) → here p (ops ++ (stores q x ∷ [])) ≡ here p ops
   elsewhere_stored p ne =
-      here_append p ops (stores q x ∷ [])
+      here-append p ops (stores q x ∷ [])
       ∙ ap (λ z. here p ops ++ z) (cond-false (eqb q p) (puts x ∷ []) [] (ne_eqb q p (λ e. ne (sym e))))
       ∙ append-nil (here p ops)
 
@@ -167,7 +167,7 @@ module _ {V : Type 0} (parts : Parts) (first : List V) (w : World V) (s : ℕ) (
           old = λ l i y at. ⊎_elim (λ was. t.old l i y was)
               (λ new. subst (λ (z : Entry). z.version ≤ version (w.status z.lock)) new.1
               (let e = ap version free in omega arith))
-              (nth_push own.reads x i y at);
+              (slice_get_push own.reads x i y at);
           logged = t.logged;
           unlogged = t.unlogged;
           ending = ends_open (length (own.reads ++ (x ∷ []))) (length own.changed)
@@ -185,7 +185,7 @@ module _ {V : Type 0} (parts : Parts) (first : List V) (w : World V) (s : ℕ) (
               }))
               (λ new. f.unnoted (subst (λ z. has_lock own.reads z ≡ false)
               (ap (λ (z : Entry). z.lock) new.1 ∙ so.names) none))
-              (nth_push own.reads x so.index so.entry so.found);
+              (slice_get_push own.reads x so.index so.entry so.found);
           unnoted = λ e. f.unnoted (lock_pushed own.reads x (parts.guard p) e).0;
           owned = f.owned;
           unowned = f.unowned;
@@ -246,7 +246,7 @@ module _ {V : Type 0} (parts : Parts) (first : List V) (w : World V) (s : ℕ) (
 
         -- the value that is loaded is the one that the job has left there
         fits : Fits o b → then o b ≡ cell_at w q → Fits (o ++ (gets x ∷ [])) b
-        fits before at = fits-append o (gets x ∷ []) b before (at ∙ cell, tt)
+        fits before at = fits_append o (gets x ∷ []) b before (at ∙ cell, tt)
 
         here_fair : AtPlace q
         here_fair =
@@ -257,8 +257,8 @@ module _ {V : Type 0} (parts : Parts) (first : List V) (w : World V) (s : ℕ) (
               unnoted = λ none. fits (f.unnoted none)
                   (⊎_elim f.owned
                   (λ has. absurd (both_ways (has_lock own.reads (parts.guard q)) none has)) reach);
-              owned = λ mine. then_append o (gets x ∷ []) b ∙ f.owned mine;
-              unowned = λ not_mine. gets-append o (gets x ∷ []) (f.unowned not_mine) tt;
+              owned = λ mine. then-append o (gets x ∷ []) b ∙ f.owned mine;
+              unowned = λ not_mine. gets_append o (gets x ∷ []) (f.unowned not_mine) tt;
               untouched = λ none not_mine. absurd (⊎_elim not_mine
                   (λ has. both_ways (has_lock own.reads (parts.guard q)) none has) reach);
             })

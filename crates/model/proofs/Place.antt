@@ -5,7 +5,7 @@ use Rattle.std.specs.List.{slice_get}
 use Rattle.std.proofs.lemmas.Bool.{eqb-true, eqb-false, eq-eqb, cond_both, cond-true, cond-false}
 use Rattle.model.specs.Event.{Op, loads, stores}
 use Rattle.model.specs.Law.{left, Alone}
-use Rattle.model.proofs.Tables.{nth_set_there}
+use Rattle.model.proofs.Tables.{slice_get-set_there}
 
 -- an operation at a place: its value was loaded, or replaced
 pub data Act (V : Type 0) : Type 0 where
@@ -42,20 +42,20 @@ module _ {V : Type 0} where
   here p (loads q x ∷ ops) = cond (eqb q p) (gets x ∷ here p ops) (here p ops)
   here p (stores q x ∷ ops) = cond (eqb q p) (puts x ∷ here p ops) (here p ops)
 
-  pub then_append : (a b : List (Act V)) (x : Option V) → then (a ++ b) x ≡ then b (then a x)
-  then_append [] b x = refl
-  then_append (gets y ∷ a) b x = then_append a b x
-  then_append (puts y ∷ a) b x = then_append a b (over x y)
+  pub then-append : (a b : List (Act V)) (x : Option V) → then (a ++ b) x ≡ then b (then a x)
+  then-append [] b x = refl
+  then-append (gets y ∷ a) b x = then-append a b x
+  then-append (puts y ∷ a) b x = then-append a b (over x y)
 
-  pub fits-append : (a b : List (Act V)) (x : Option V) → Fits a x → Fits b (then a x) → Fits (a ++ b) x
-  fits-append [] b x fa fb = fb
-  fits-append (gets y ∷ a) b x fa fb = (fa.0, fits-append a b x fa.1 fb)
-  fits-append (puts y ∷ a) b x fa fb = fits-append a b (over x y) fa fb
+  pub fits_append : (a b : List (Act V)) (x : Option V) → Fits a x → Fits b (then a x) → Fits (a ++ b) x
+  fits_append [] b x fa fb = fb
+  fits_append (gets y ∷ a) b x fa fb = (fa.0, fits_append a b x fa.1 fb)
+  fits_append (puts y ∷ a) b x fa fb = fits_append a b (over x y) fa fb
 
-  pub gets-append : (a b : List (Act V)) → Gets a → Gets b → Gets (a ++ b)
-  gets-append [] b ga gb = gb
-  gets-append (gets y ∷ a) b ga gb = gets-append a b ga gb
-  gets-append (puts y ∷ a) b ga gb = absurd ga
+  pub gets_append : (a b : List (Act V)) → Gets a → Gets b → Gets (a ++ b)
+  gets_append [] b ga gb = gb
+  gets_append (gets y ∷ a) b ga gb = gets_append a b ga gb
+  gets_append (puts y ∷ a) b ga gb = absurd ga
 
   pub then_gets : (o : List (Act V)) (x : Option V) → Gets o → then o x ≡ x
   then_gets [] x g = refl
@@ -63,16 +63,16 @@ module _ {V : Type 0} where
   then_gets (puts y ∷ o) x g = absurd g
 
   -- one operation more, at this place or at another
-  pub here_append : (p : ℕ) (a b : List (Op V)) → here p (a ++ b) ≡ here p a ++ here p b
-  here_append p [] b = refl
-  here_append p (loads q x ∷ a) b =
-      let more = here_append p a b in
+  pub here-append : (p : ℕ) (a b : List (Op V)) → here p (a ++ b) ≡ here p a ++ here p b
+  here-append p [] b = refl
+  here-append p (loads q x ∷ a) b =
+      let more = here-append p a b in
       cond_both (eqb q p) (gets x ∷ here p a) (here p a)
       (λ (z : List (Act V)). cond (eqb q p) (gets x ∷ here p (a ++ b)) (here p (a ++ b)) ≡ z ++ here p b)
       (λ e. cond-true (eqb q p) (gets x ∷ here p (a ++ b)) (here p (a ++ b)) e ∙ ap (λ z. gets x ∷ z) more)
       (λ e. cond-false (eqb q p) (gets x ∷ here p (a ++ b)) (here p (a ++ b)) e ∙ more)
-  here_append p (stores q x ∷ a) b =
-      let more = here_append p a b in
+  here-append p (stores q x ∷ a) b =
+      let more = here-append p a b in
       cond_both (eqb q p) (puts x ∷ here p a) (here p a)
       (λ (z : List (Act V)). cond (eqb q p) (puts x ∷ here p (a ++ b)) (here p (a ++ b)) ≡ z ++ here p b)
       (λ e. cond-true (eqb q p) (puts x ∷ here p (a ++ b)) (here p (a ++ b)) e ∙ ap (λ z. puts x ∷ z) more)
@@ -84,7 +84,7 @@ module _ {V : Type 0} where
   cell_set cells q p x =
       cond_both (eqb q p) (over (slice_get cells p) x) (slice_get cells p) (λ (z : Option V). slice_get (set cells q x) p ≡ z)
       (λ e. subst (λ z. slice_get (set cells q x) z ≡ over (slice_get cells z) x) (eqb-true q p e) (at cells q))
-      (λ e. nth_set_there cells q p x (eqb-false q p e))
+      (λ e. slice_get-set_there cells q p x (eqb-false q p e))
     where
       at : (xs : List V) (k : ℕ) → slice_get (set xs k x) k ≡ over (slice_get xs k) x
       at [] k = refl

@@ -20,32 +20,32 @@ module _ {A : Type 0} (f : ℕ → A) (k : ℕ) (a : A) where
       (λ e. there q (eqb-false q k e))
 
 -- an element of a list with one more behind it
-pub nth_push : {A : Type 0} (xs : List A) (x : A) (i : ℕ) (y : A) → slice_get (xs ++ (x ∷ [])) i ≡ Option.Some y
+pub slice_get_push : {A : Type 0} (xs : List A) (x : A) (i : ℕ) (y : A) → slice_get (xs ++ (x ∷ [])) i ≡ Option.Some y
     → (slice_get xs i ≡ Option.Some y) ⊎ ((i ≡ length xs) × (x ≡ y))
-nth_push [] x zero y e = inr (refl, same_Some x y e)
-nth_push [] x (suc i) y e = absurd (none-some y e)
-nth_push (z ∷ xs) x zero y e = inl e
-nth_push (z ∷ xs) x (suc i) y e =
-    ⊎_elim (λ old. inl old) (λ new. inr (ap suc new.0, new.1)) (nth_push xs x i y e)
+slice_get_push [] x zero y e = inr (refl, same_Some x y e)
+slice_get_push [] x (suc i) y e = absurd (none-some y e)
+slice_get_push (z ∷ xs) x zero y e = inl e
+slice_get_push (z ∷ xs) x (suc i) y e =
+    ⊎_elim (λ old. inl old) (λ new. inr (ap suc new.0, new.1)) (slice_get_push xs x i y e)
 
-pub nth_none : {A : Type 0} (xs : List A) (i : ℕ) → slice_get xs i ≡ Option.None → length xs ≤ i
-nth_none [] i e = omega arith
-nth_none (x ∷ xs) zero e = absurd (none-some x (sym e))
-nth_none (x ∷ xs) (suc i) e = let m = nth_none xs i e in omega arith
+pub slice_get_none : {A : Type 0} (xs : List A) (i : ℕ) → slice_get xs i ≡ Option.None → length xs ≤ i
+slice_get_none [] i e = omega arith
+slice_get_none (x ∷ xs) zero e = absurd (none-some x (sym e))
+slice_get_none (x ∷ xs) (suc i) e = let m = slice_get_none xs i e in omega arith
 
 -- a cell of a list of which one cell is replaced
 module _ {A : Type 0} where
-  pub nth_set_there : (xs : List A) (q p : ℕ) (x : A) → (q ≡ p → ⊥) → slice_get (set xs q x) p ≡ slice_get xs p
-  nth_set_there [] q p x apart = refl
-  nth_set_there (y ∷ xs) zero zero x apart = absurd (apart refl)
-  nth_set_there (y ∷ xs) zero (suc p) x apart = refl
-  nth_set_there (y ∷ xs) (suc q) zero x apart = refl
-  nth_set_there (y ∷ xs) (suc q) (suc p) x apart = nth_set_there xs q p x (λ e. apart (ap suc e))
+  pub slice_get-set_there : (xs : List A) (q p : ℕ) (x : A) → (q ≡ p → ⊥) → slice_get (set xs q x) p ≡ slice_get xs p
+  slice_get-set_there [] q p x apart = refl
+  slice_get-set_there (y ∷ xs) zero zero x apart = absurd (apart refl)
+  slice_get-set_there (y ∷ xs) zero (suc p) x apart = refl
+  slice_get-set_there (y ∷ xs) (suc q) zero x apart = refl
+  slice_get-set_there (y ∷ xs) (suc q) (suc p) x apart = slice_get-set_there xs q p x (λ e. apart (ap suc e))
 
-  pub nth_set_here : (xs : List A) (p : ℕ) (x : A) → p < length xs → slice_get (set xs p x) p ≡ Option.Some x
-  nth_set_here [] p x within = absurd (omega arith)
-  nth_set_here (y ∷ xs) zero x within = refl
-  nth_set_here (y ∷ xs) (suc p) x within = nth_set_here xs p x (omega arith)
+  pub slice_get-set_here : (xs : List A) (p : ℕ) (x : A) → p < length xs → slice_get (set xs p x) p ≡ Option.Some x
+  slice_get-set_here [] p x within = absurd (omega arith)
+  slice_get-set_here (y ∷ xs) zero x within = refl
+  slice_get-set_here (y ∷ xs) (suc p) x within = slice_get-set_here xs p x (omega arith)
 
 -- where a list has a lock, some entry is of it; and a list with one more entry
 pub lock_found : (xs : List Entry) (l : ℕ) → has_lock xs l ≡ true
