@@ -1,4 +1,4 @@
--- Three broken engines: the plain step, but for one row of its table. Assumes nothing.
+-- Three broken engines: the plain step, but for one or two rows of its table. Assumes nothing.
 --   lenient good_too    entries of which good_too says so count as good, in check and in advance while checking
 --   never_looks         every entry counts as good
 --   own_is_good         an entry whose lock the slot holds counts as good, whatever its version

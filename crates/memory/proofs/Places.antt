@@ -52,7 +52,8 @@ module _ {V : Type 0} where
   slice_get_some (c ∷ cs) zero h = (c, refl)
   slice_get_some (c ∷ cs) (suc p) h = slice_get_some cs p (omega arith)
 
-  slice_get-append_right : (xs ys : List V) (p : ℕ) → length xs ≤ p → slice_get (xs ++ ys) p ≡ slice_get ys (p - length xs)
+  slice_get-append_right : (xs ys : List V) (p : ℕ) → length xs ≤ p
+      → slice_get (xs ++ ys) p ≡ slice_get ys (p - length xs)
   slice_get-append_right xs ys p right =
       let e : p ≡ length xs + (p - length xs) = omega arith in
       ap (slice_get (xs ++ ys)) e ∙ nth_right xs ys (p - length xs)
@@ -76,7 +77,8 @@ module _ {V : Type 0} (n : ℕ) (cells : List V) (p i : ℕ) (same : i ≡ p) (w
 
   pub loaded_here : (v : V) → slice_get cells i ≡ Some v → Ok v ≡ loaded (take n cells) p
   loaded_here v read =
-      sym (loaded_within (take n cells) p v (slice_get-take n cells p below_first ∙ ap (slice_get cells) (sym same) ∙ read))
+      sym (loaded_within (take n cells) p v
+      (slice_get-take n cells p below_first ∙ ap (slice_get cells) (sym same) ∙ read))
 
   pub stored_here : Ok tt ≡ stored (take n cells) p
   stored_here = sym (stored_within (take n cells) p within)

@@ -33,4 +33,5 @@ module _ {V : Type 0} where
   -- the half in which the cell lies, where the joined memory counts it, or a refusal
   abbrev pub Located : List V → List V → ℕ → Result Half MemoryFault → Type 0
   Located xs ys place r =
-      MatchResult r (λ half. (place < length (counted (xs ++ ys))) × Inside xs place half) (Past (counted (xs ++ ys)) place)
+      MatchResult r (λ half. (place < length (counted (xs ++ ys))) × Inside xs place half)
+      (Past (counted (xs ++ ys)) place)

@@ -280,8 +280,8 @@ module _ {V : Type 0} (parts : Parts) (first : List V) (w : World V) (s : ℕ) (
               (cases_Bool (has_lock own.reads (parts.guard p))))
               (slice_get first p) (line w.past) (inv.present s checking) (inv.along p))
 
-          elsewhere : (Owner s (status_at parts w p) → ⊥) → Along (view_at parts committed_world p) p (slice_get first p)
-              (marked s (line w.past))
+          elsewhere : (Owner s (status_at parts w p) → ⊥)
+              → Along (view_at parts committed_world p) p (slice_get first p) (marked s (line w.past))
           elsewhere none =
               along_steady (but s v) (view_at parts committed_world p) p
               (steady_left parts w committed_world s first inv goes_committed p v.base

@@ -187,12 +187,12 @@ module _ {V : Type 0} where
         (λ _ both. (waiting_steady x t rest both.0, along_steady x rest both.1)) along
 
   -- a job that asks to commit: it has passed nothing yet, and stands behind all committed jobs
-  module _ (v : View V) (p : ℕ) (t : Turn V) (open_Turn : t.committed ≡ false) (waiting : v.Waits t.slot)
+  module _ (v : View V) (p : ℕ) (t : Turn V) (open_turn : t.committed ≡ false) (waiting : v.Waits t.slot)
       (same : here p t.ops ≡ v.acts t.slot) (none : v.Checks t.slot → v.Passes t.slot → ⊥) where
     quiet_new : Quiet v p t
     quiet_new =
         subst (λ (b : Bool). cond b (here p t.ops ≡ []) (v.Checks t.slot → v.Passes t.slot
-        → ⊥)) (sym open_Turn) none
+        → ⊥)) (sym open_turn) none
 
     waiting_push : (x : Option V) (u : Turn V) (rest : List (Turn V))
         → waits t.slot u ≡ false → u.committed ≡ false
@@ -210,7 +210,7 @@ module _ {V : Type 0} where
 
     pub along_push : (x : Option V) (line : List (Turn V)) → Absent t.slot line → Along v p x line
         → Along v p x (line ++ (t ∷ []))
-    along_push x [] absent along = from_ahead v p x t [] open_Turn (
+    along_push x [] absent along = from_ahead v p x t [] open_turn (
       record {
         waiting = waiting;
         same = same;

@@ -75,7 +75,8 @@ module _ {V : Type 0} where
     -- records stay in place while their cells of the undo memory, their owner and the count of cells do
     pub logged_kept : (count count' : ℕ) (undo undo' : List V) (status status' : ℕ → Status) (s : ℕ)
         (log : List (Saved V)) (changed : List ℕ)
-        → count' ≡ count → ((k : ℕ) → k < length changed → slice_get undo' (undo_place s k) ≡ slice_get undo (undo_place s k))
+        → count' ≡ count
+        → ((k : ℕ) → k < length changed → slice_get undo' (undo_place s k) ≡ slice_get undo (undo_place s k))
         → ((l : ℕ) → Owner s (status l) → Owner s (status' l))
         → Logged parts count undo status s log changed → Logged parts count' undo' status' s log changed
     logged_kept count count' undo undo' status status' s [] [] same values owners logged = tt

@@ -82,7 +82,8 @@ module _ {V : Type 0} where
   pub cell_set : (cells : List V) (q p : ℕ) (x : V)
       → slice_get (set cells q x) p ≡ cond (eqb q p) (over (slice_get cells p) x) (slice_get cells p)
   cell_set cells q p x =
-      cond_both (eqb q p) (over (slice_get cells p) x) (slice_get cells p) (λ (z : Option V). slice_get (set cells q x) p ≡ z)
+      cond_both (eqb q p) (over (slice_get cells p) x) (slice_get cells p)
+      (λ (z : Option V). slice_get (set cells q x) p ≡ z)
       (λ e. subst (λ z. slice_get (set cells q x) z ≡ over (slice_get cells z) x) (eqb-true q p e) (at cells q))
       (λ e. slice_get-set_there cells q p x (eqb-false q p e))
     where
@@ -130,6 +131,7 @@ module _ {V : Type 0} where
           (cond_both (eqb q p) (puts x ∷ here p ops) (here p ops)
           (λ (o : List (Act V)). Fits o (slice_get cells p)
           → Fits (here p ops) (cond (eqb q p) (over (slice_get cells p) x) (slice_get cells p)))
-          (λ e f. subst (Fits (here p ops)) (sym (cond-true (eqb q p) (over (slice_get cells p) x) (slice_get cells p) e)) f)
+          (λ e f. subst (Fits (here p ops))
+          (sym (cond-true (eqb q p) (over (slice_get cells p) x) (slice_get cells p) e)) f)
           (λ e f. subst (Fits (here p ops))
           (sym (cond-false (eqb q p) (over (slice_get cells p) x) (slice_get cells p) e)) f) (fits p))

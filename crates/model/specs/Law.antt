@@ -48,7 +48,8 @@ module _ {V : Type 0} where
     -- the first cells, answer every load as the engine did ..
     pub serial_loads : Alone (in_turn (line h)) first
     -- .. and leave every cell whose lock is free as the engine has it
-    pub serial_cells : (p : ℕ) → held h (guard p) ≡ false → slice_get (left (in_turn (line h)) first) p ≡ slice_get last p
+    pub serial_cells : (p : ℕ) → held h (guard p) ≡ false
+        → slice_get (left (in_turn (line h)) first) p ≡ slice_get last p
     -- consistent check: a job whose check answered good, run alone up to that check directly behind the jobs
     -- committed by then, answers every load as the engine did
     pub consistent : (e : Event V) (past : History V) → At h (e ∷ past) → e.deed ≡ validates
