@@ -4,10 +4,10 @@
 --   late_end              calls on which the two orders differ
 --   ByEndRefuted          run alone in the order of their ends, the jobs do not answer the loads as the plain
 --                         engine did, and in the order of their granted commits they do
-use Rattle.std.specs.Prelude.{ℕ, Bool, true, false, cond, List, [], ◌∷◌, ◌++◌, replicate, ◌==◌}
+use Rattle.std.specs.Prelude.{ℕ, Bool, true, false, if◌then◌else◌, List, [], ◌∷◌, ◌++◌, replicate, ◌==◌}
 use Rattle.model.specs.declared.step.Step.TheVariants.{Begin, Note, Load, Acquire, Store, Commit, Advance}
 use Rattle.model.specs.declared.step.Call.{Call}
-use Rattle.model.specs.Event.{Deed, begins, notes, does, takes, validates, asks, quits, commits, frees, ends, nothing, History, history}
+use Rattle.model.specs.Event.{Deed, begins, commits, ends, History, history}
 use Rattle.model.specs.Job.{job}
 use Rattle.model.specs.History.{Turn, line, in_turn}
 use Rattle.model.specs.Law.{Alone}
@@ -19,35 +19,18 @@ module _ {V : Type 0} where
   abbrev pub committed_after : Deed V → Bool → Bool
   committed_after begins was = false
   committed_after commits was = true
-  committed_after notes was = was
-  committed_after (does op) was = was
-  committed_after (takes l) was = was
-  committed_after validates was = was
-  committed_after asks was = was
-  committed_after quits was = was
-  committed_after (frees l) was = was
-  committed_after ends was = was
-  committed_after nothing was = was
+  committed_after deed was = was
 
   -- the job of the slot is committed
   abbrev pub has_committed : ℕ → History V → Bool
   has_committed s [] = false
   has_committed s (e ∷ h) =
-      cond (e.slot == s) (committed_after e.deed (has_committed s h)) (has_committed s h)
+      if e.slot == s then committed_after e.deed (has_committed s h) else has_committed s h
 
   -- the line after a deed of the job: at its end the job takes its place
   abbrev pub placed_after : Deed V → Turn V → List (Turn V) → List (Turn V)
   placed_after ends turn line = line ++ (turn ∷ [])
-  placed_after begins turn line = line
-  placed_after notes turn line = line
-  placed_after (does op) turn line = line
-  placed_after (takes l) turn line = line
-  placed_after validates turn line = line
-  placed_after asks turn line = line
-  placed_after quits turn line = line
-  placed_after commits turn line = line
-  placed_after (frees l) turn line = line
-  placed_after nothing turn line = line
+  placed_after deed turn line = line
 
   -- jobs in the order of their ends
   abbrev pub line_by_end : History V → List (Turn V)

@@ -5,7 +5,8 @@
 --   by s steps         these steps, all asked of slot s
 --   granted, refusals  answers that are no refusals, and answers that are
 --   seen, wanted       what the calls of an edge come to, and what they should come to
---   edges, EdgesHold   the ten, and that each comes to what it should
+--   edges              the ten
+--   EdgesHold table    each edge of the table comes to what it should
 use Rattle.std.specs.Prelude.{◌≡◌, ℕ, zero, suc, ◌+◌, List, [], ◌∷◌, ◌++◌, map, replicate, Result}
 use Rattle.locks.specs.LineMap.{line_locks, line_guard}
 use Rattle.memory.specs.declared.fault.MemoryFault.{MemoryFault}
@@ -121,6 +122,6 @@ edges =
     ++ refusals (WrongState Free ∷ [])) (0 ∷ []) (4 ∷ [])
     ∷ []
 
--- every edge comes to what it should
-abbrev pub EdgesHold : Type 0
-EdgesHold = map seen edges ≡ map wanted edges
+-- every edge of a table comes to what it should
+abbrev pub EdgesHold : List Edge → Type 0
+EdgesHold table = map seen table ≡ map wanted table

@@ -3,6 +3,4 @@ pub mod Refusals
 pub mod Unfit
 pub mod Broken
 pub mod Refuted
-pub mod BrokenEnds
-pub mod RefutedEnds
 pub mod ByEnd

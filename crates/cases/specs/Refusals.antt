@@ -4,8 +4,7 @@
 --   taking, taken v       the steps of a job that takes the lock of place 9, and its answers, at the version v
 --   ten_cells             cells in which place p has the value p
 --   refusal_cases         four runs
---   RefusalsHold          each comes to what it should
-use Rattle.std.specs.Prelude.{◌≡◌, ℕ, List, [], ◌∷◌, ◌++◌, map, replicate, Result}
+use Rattle.std.specs.Prelude.{ℕ, List, [], ◌∷◌, ◌++◌, replicate, Result}
 use Rattle.model.specs.declared.outcome.Outcome.{Outcome}
 use Rattle.model.specs.declared.slot_state.SlotState.{SlotState}
 use Rattle.model.specs.declared.step.Step.{Step}
@@ -14,7 +13,7 @@ use Rattle.model.specs.declared.answer.Answer.{Answer}
 use Rattle.model.specs.declared.answer.Answer.TheVariants.{Begun, Own, Known, Noted, Value, Acquired, Stored, Good, Stale, Checking, Undoing, Passed, Restored, Unlocking, Released, Ended}
 use Rattle.model.specs.declared.fault.EngineFault.{EngineFault}
 use Rattle.model.specs.declared.fault.EngineFault.TheVariants.{WrongState, NotNoted, NotHeld, ReadSetFull, HeldListFull, UndoLogFull, LastVersion, HeldByOther}
-use Rattle.cases.specs.Edges.{Edge, edge, lines, counted, by, granted, refusals, past_end, seen, wanted}
+use Rattle.cases.specs.Edges.{Edge, edge, lines, counted, by, granted, refusals, past_end}
 
 -- of these a free slot grants none
 abbrev pub steps_but_begin : List (Step ℕ)
@@ -107,7 +106,3 @@ refusal_cases =
     ++ granted (Noted 3 ∷ Value 2 ∷ Good ∷ Checking ∷ Passed 1 ∷ Answer.Committed ∷ Ended Outcome.Committed ∷ []))
     ten_cells (12 ∷ 28 ∷ 4 ∷ [])
     ∷ []
-
--- every refusal comes to what it should
-abbrev pub RefusalsHold : Type 0
-RefusalsHold = map seen refusal_cases ≡ map wanted refusal_cases

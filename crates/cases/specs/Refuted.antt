@@ -4,26 +4,32 @@
 --   last_answer t          what the last call of the trace t answers
 --   ran one calls          the run of these calls on a new engine, where one makes the step
 --   KeepsLaw one calls     that run keeps the law
---   Answers one calls a    its last call answers a
---   dirty_check, dirty_commit, undone_check, overtaken_check       the calls
---   NeverLooksRefuted, OldVersionRefuted, OwnIsGoodRefuted         the broken engines do not keep the law
---   NeverLooksTells, OldVersionTells, OwnIsGoodTells               what they and the plain engine answer
-use Rattle.std.specs.Prelude.{◌≡◌, ℕ, List, [], ◌∷◌, ◌++◌, replicate, Option, Result}
+--   Breach                 a broken step and calls, with what it and the plain step answer last
+--   dirty_check, dirty_commit, undone_check, overtaken_check, undone_store, empty_commit, empty_abort, late_store
+--                          the calls
+--   breaches               each broken engine with its calls, never_looks with two lists of them
+--   BreaksLaw b            the run of the breach b does not keep the law
+--   seen_last, wanted_last     what the last answers of a breach come to, and what they should come to
+--   BreachesRefuted, BreachesTold      each breaks the law, and each comes to what it should
+use Rattle.std.specs.Prelude.{◌≡◌, ℕ, List, [], ◌∷◌, ◌++◌, map, replicate, Some, None, Ok, Err, Option, Result, All}
+use Rattle.std.specs.List.{last_or}
+use Rattle.model.specs.declared.outcome.Outcome.{Outcome}
+use Rattle.model.specs.declared.slot_state.SlotState.{SlotState}
 use Rattle.model.specs.declared.step.Step.TheVariants.{Begin, Note, Load, Acquire, Store, Check, Commit, Advance, Abort}
 use Rattle.model.specs.declared.step.Call.{Call}
 use Rattle.model.specs.declared.answer.Answer.{Answer}
-use Rattle.model.specs.declared.answer.Answer.TheVariants.{Good, Stale, Unlocking}
+use Rattle.model.specs.declared.answer.Answer.TheVariants.{Stored, Good, Stale, Unlocking, Released, Ended}
 use Rattle.model.specs.declared.fault.EngineFault.{EngineFault}
-use Rattle.model.specs.Engine.{Parts, Engine, fresh}
-use Rattle.model.specs.Step.{Reply}
+use Rattle.model.specs.declared.fault.EngineFault.TheVariants.{WrongState}
+use Rattle.model.specs.Engine.{Parts, fresh}
 use Rattle.model.specs.Table.{step, Done, Ran, run_by}
 use Rattle.model.specs.Law.{Lawful}
 use Rattle.cases.specs.Edges.{lines, by}
-use Rattle.cases.specs.Broken.{never_looks, own_is_good, old_version}
+use Rattle.cases.specs.Broken.{EngineStep, never_looks, own_is_good, old_version, keeps_stores, never_ends, refuses_advance, stores_late}
 
 -- the plain step, over numbers
-abbrev pub plain : Parts → Engine ℕ → Call ℕ → Reply ℕ
-plain parts engine call = step parts engine call
+abbrev pub plain : EngineStep
+plain = step
 
 -- one lock guards every place
 abbrev pub one_place : Parts
@@ -31,11 +37,9 @@ one_place = lines 1 1 5
 
 -- the answer of the last call
 abbrev pub last_answer : List (Done ℕ) → Option (Result (Answer ℕ) EngineFault)
-last_answer [] = Option.None
-last_answer (done ∷ []) = Option.Some done.answer
-last_answer (done ∷ next ∷ rest) = last_answer (next ∷ rest)
+last_answer trace = last_or None (map (λ done. done.answer) trace)
 
-module _ (one : Parts → Engine ℕ → Call ℕ → Reply ℕ) (calls : List (Call ℕ)) where
+module _ (one : EngineStep) (calls : List (Call ℕ)) where
   -- a run over one cell
   abbrev pub ran : Ran ℕ
   ran = run_by (one one_place) (fresh (0 ∷ []) (replicate 512 0)) calls
@@ -44,9 +48,18 @@ module _ (one : Parts → Engine ℕ → Call ℕ → Reply ℕ) (calls : List (
   abbrev pub KeepsLaw : Type 0
   KeepsLaw = Lawful one_place.guard (0 ∷ []) ran.last.cells ran.trace
 
-  -- the last call answers this
-  abbrev pub Answers : Answer ℕ → Type 0
-  Answers answer = last_answer ran.trace ≡ Option.Some (Result.Ok answer)
+-- a broken step, and calls on which it breaks the law
+pub record Breach : Type 0 where
+  pub one : EngineStep
+  pub calls : List (Call ℕ)
+  -- what it answers last, and what the plain step does
+  pub answer : Result (Answer ℕ) EngineFault
+  pub plain_answer : Result (Answer ℕ) EngineFault
+
+-- the fields in their order
+abbrev pub breach : EngineStep → List (Call ℕ) → Result (Answer ℕ) EngineFault → Result (Answer ℕ) EngineFault → Breach
+breach one calls answer plain_answer =
+    record { one = one; calls = calls; answer = answer; plain_answer = plain_answer }
 
 -- job 0 loads what job 1 has stored and not committed, and checks
 abbrev pub dirty_check : List (Call ℕ)
@@ -67,27 +80,60 @@ abbrev pub overtaken_check : List (Call ℕ)
 overtaken_check = by 0 (Begin ∷ Note 0 ∷ Load 0 ∷ [])
     ++ by 1 (Begin ∷ Acquire 0 ∷ Store 0 250 ∷ Commit ∷ replicate 2 Advance) ++ by 0 (Acquire 0 ∷ Check ∷ [])
 
--- the engine that never looks breaks the law by a check, and by a commit
-abbrev pub NeverLooksRefuted : Type 0
-NeverLooksRefuted = (KeepsLaw never_looks dirty_check → ⊥) × (KeepsLaw never_looks dirty_commit → ⊥)
+-- a job stores and aborts, and advances twice
+abbrev pub undone_store : List (Call ℕ)
+undone_store = by 0 (Begin ∷ Acquire 0 ∷ Store 0 250 ∷ Abort ∷ Advance ∷ Advance ∷ [])
 
--- the engine that gives a lock its old version back after an undo breaks the law
-abbrev pub OldVersionRefuted : Type 0
-OldVersionRefuted = KeepsLaw old_version undone_check → ⊥
+-- a job that has done nothing commits, and makes both advances that it is allowed
+abbrev pub empty_commit : List (Call ℕ)
+empty_commit = by 0 (Begin ∷ Commit ∷ Advance ∷ Advance ∷ [])
 
--- the engine that takes an own lock as good breaks the law
-abbrev pub OwnIsGoodRefuted : Type 0
-OwnIsGoodRefuted = KeepsLaw own_is_good overtaken_check → ⊥
+-- a job that has done nothing aborts, and advances
+abbrev pub empty_abort : List (Call ℕ)
+empty_abort = by 0 (Begin ∷ Abort ∷ Advance ∷ [])
 
--- to the check it answers good where the plain engine answers stale, and job 0 is committed where it is undone
-abbrev pub NeverLooksTells : Type 0
-NeverLooksTells = Answers never_looks dirty_check Good × Answers plain dirty_check (Stale 0)
-    × Answers never_looks dirty_commit Answer.Committed × Answers plain dirty_commit Unlocking
+-- a job stores after its commit
+abbrev pub late_store : List (Call ℕ)
+late_store = by 0 (Begin ∷ Acquire 0 ∷ Commit ∷ Store 0 250 ∷ [])
 
--- to the check it answers good where the plain engine answers stale
-abbrev pub OldVersionTells : Type 0
-OldVersionTells = Answers old_version undone_check Good × Answers plain undone_check (Stale 0)
+-- each with what it shows
+abbrev pub breaches : List Breach
+breaches =
+    -- its check never looks: it answers good where the plain engine answers stale ..
+    breach never_looks dirty_check (Ok Good) (Ok (Stale 0))
+    -- .. and job 0 is committed where it is undone
+    ∷ breach never_looks dirty_commit (Ok Answer.Committed) (Ok Unlocking)
+    -- a lock gets its old version back after an undo: good where the plain engine answers stale
+    ∷ breach old_version undone_check (Ok Good) (Ok (Stale 0))
+    -- an own lock is taken as good without comparing versions: good where the plain engine answers stale
+    ∷ breach own_is_good overtaken_check (Ok Good) (Ok (Stale 0))
+    -- an undo puts nothing back, which breaks the serial order of the cells: the lock is free, and the store is there;
+    -- with the second advance it releases the lock where the plain engine has just put the old value back
+    ∷ breach keeps_stores undone_store (Ok (Released 0)) (Ok Unlocking)
+    -- no job ends, which breaks the bounded end: unlocking where the plain engine answers that the job has ended
+    ∷ breach never_ends empty_commit (Ok Unlocking) (Ok (Ended Outcome.Committed))
+    -- an undoing job is refused its advances: number 22 where the plain engine goes on to the locks
+    ∷ breach refuses_advance empty_abort (Err (WrongState SlotState.Undoing)) (Ok Unlocking)
+    -- a job that has asked to commit is granted a store: it stores where the plain engine draws number 22
+    ∷ breach stores_late late_store (Ok Stored) (Err (WrongState (SlotState.Checking 0)))
+    ∷ []
 
--- to the check it answers good where the plain engine answers stale
-abbrev pub OwnIsGoodTells : Type 0
-OwnIsGoodTells = Answers own_is_good overtaken_check Good × Answers plain overtaken_check (Stale 0)
+-- the run does not keep the law
+abbrev pub BreaksLaw : Breach → Type 0
+BreaksLaw row = KeepsLaw row.one row.calls → ⊥
+
+-- every breach breaks the law
+abbrev pub BreachesRefuted : Type 0
+BreachesRefuted = All BreaksLaw breaches
+
+-- what its step and the plain step answer last
+abbrev pub seen_last : Breach → Option (Result (Answer ℕ) EngineFault) × Option (Result (Answer ℕ) EngineFault)
+seen_last row = (last_answer (ran row.one row.calls).trace, last_answer (ran plain row.calls).trace)
+
+-- the same as the breach has them
+abbrev pub wanted_last : Breach → Option (Result (Answer ℕ) EngineFault) × Option (Result (Answer ℕ) EngineFault)
+wanted_last row = (Some row.answer, Some row.plain_answer)
+
+-- every breach answers last what it should
+abbrev pub BreachesTold : Type 0
+BreachesTold = map seen_last breaches ≡ map wanted_last breaches

@@ -1,16 +1,12 @@
 // The edges of the plain engine, and its refusals.
-ghost use Rattle.cases.specs.Edges.{EdgesHold};
-ghost use Rattle.cases.specs.Refusals.{RefusalsHold};
+ghost use Rattle.cases.specs.Edges.{EdgesHold, edges};
+ghost use Rattle.cases.specs.Refusals.{refusal_cases};
 ghost use Rattle.cases.specs.Unfit.{UnfitTold};
 
-// Every edge of the table comes to what it should.
+// Every edge of the two tables comes to what it should.
 pub fn edges_hold()
-    ensures { EdgesHold }
-{}
-
-// Every refusal of the second table does.
-pub fn refusals_hold()
-    ensures { RefusalsHold }
+    ensures edges { EdgesHold edges }
+    ensures refusals { EdgesHold refusal_cases }
 {}
 
 // Parts that make no engine are refused, and nothing else is looked at before them.

@@ -6,16 +6,21 @@ mod tests {
     use model::fault::EngineFault;
     use model::outcome::Outcome;
     use model::slot_state::SlotState;
+    use refusal::refusal::Refusal;
 
     // The word of an answer, and what stands behind it.
-    fn shown(answer: Answer<u8>) -> (&'static str, Detail<u8>) {
+    fn shown(answer: Answer<u8>) -> (&'static str, Option<Detail<u8>>) {
         (answer.word(), answer.detail())
     }
 
     // Number, detail and layer of a fault.
     fn told(fault: EngineFault) -> (u8, u64, u8) {
-        let refusal = fault.refusal();
-        (refusal.number, refusal.detail, refusal.layer.number())
+        let Refusal {
+            number,
+            detail,
+            layer,
+        } = fault.into();
+        (number, detail, layer.into())
     }
 
     #[test]
@@ -33,15 +38,15 @@ mod tests {
                 shown(Answer::Stale(5)),
             ],
             [
-                ("begun", Detail::Nothing),
-                ("own", Detail::Nothing),
-                ("known", Detail::Nothing),
-                ("noted", Detail::Number(3)),
-                ("value", Detail::Value(250)),
-                ("acquired", Detail::Number(4)),
-                ("stored", Detail::Nothing),
-                ("good", Detail::Nothing),
-                ("stale", Detail::Number(5)),
+                ("begun", None),
+                ("own", None),
+                ("known", None),
+                ("noted", Some(Detail::Number(3))),
+                ("value", Some(Detail::Value(250))),
+                ("acquired", Some(Detail::Number(4))),
+                ("stored", None),
+                ("good", None),
+                ("stale", Some(Detail::Number(5))),
             ]
         );
     }
@@ -61,15 +66,15 @@ mod tests {
                 shown(Answer::Ended(Outcome::Undone)),
             ],
             [
-                ("checking", Detail::Nothing),
-                ("undoing", Detail::Nothing),
-                ("passed", Detail::Number(6)),
-                ("committed", Detail::Nothing),
-                ("restored", Detail::Number(7)),
-                ("unlocking", Detail::Nothing),
-                ("released", Detail::Number(8)),
-                ("ended committed", Detail::Nothing),
-                ("ended undone", Detail::Nothing),
+                ("checking", None),
+                ("undoing", None),
+                ("passed", Some(Detail::Number(6))),
+                ("committed", None),
+                ("restored", Some(Detail::Number(7))),
+                ("unlocking", None),
+                ("released", Some(Detail::Number(8))),
+                ("ended committed", None),
+                ("ended undone", None),
             ]
         );
     }
@@ -114,10 +119,10 @@ mod tests {
 
     #[test]
     fn states_are_numbers_0_to_4(rt: HostRuntime) {
-        assert_eq!(rt; SlotState::Free.number(), 0);
-        assert_eq!(rt; SlotState::Open.number(), 1);
-        assert_eq!(rt; SlotState::Checking(7).number(), 2);
-        assert_eq!(rt; SlotState::Unlocking(7, Outcome::Undone).number(), 3);
-        assert_eq!(rt; SlotState::Undoing.number(), 4);
+        assert_eq!(rt; u8::from(SlotState::Free), 0);
+        assert_eq!(rt; u8::from(SlotState::Open), 1);
+        assert_eq!(rt; u8::from(SlotState::Checking(7)), 2);
+        assert_eq!(rt; u8::from(SlotState::Unlocking(7, Outcome::Undone)), 3);
+        assert_eq!(rt; u8::from(SlotState::Undoing), 4);
     }
 }

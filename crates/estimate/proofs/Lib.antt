@@ -1,3 +1,1 @@
-pub mod Shares
 pub mod Fairness
-pub mod Orders

@@ -6,8 +6,8 @@ ghost use Rattle.estimate.specs.Quote.{Fair};
 ghost use Rattle.estimate.specs.Book.{placed, all_sheets, more_promised, Backed};
 
 use crate::fault::OrderFault;
-use crate::order::{Order, Terms};
-use crate::quote::{Quote, estimate};
+use crate::order::Order;
+use crate::quote::Quote;
 use memory::memory::Memory;
 use value::fault::ValueFault;
 use value::kind::Kind;
@@ -18,14 +18,13 @@ use value::stock_record::StockRecord;
 pub fn promise<M: Memory<Value = StockRecord>>(
     book: &mut M,
     order: Order,
-    terms: Terms,
 ) -> Result<Quote, OrderFault>
-    ensures placed { (result, M.Memory.cells book.new) ≡ placed (M.Memory.cells book.old) order terms }
-    ensures fair { IfOk result (λ q. Fair order terms q) }
+    ensures placed { (result, M.Memory.cells book.new) ≡ placed (M.Memory.cells book.old) order }
+    ensures fair { IfOk result (λ q. Fair order q) }
     ensures backed { Backed (M.Memory.cells book.old) → Backed (M.Memory.cells book.new) }
 {
     let paper = book.load(order.paper)?;
-    let quote = estimate(order, terms, paper.price());
+    let quote = order.estimate(paper.price());
     let more = with_promised(paper, quote)?;
     book.store(order.paper, more)?;
     Ok(quote)
@@ -35,6 +34,6 @@ pub fn promise<M: Memory<Value = StockRecord>>(
 fn with_promised(paper: StockRecord, quote: Quote) -> Result<StockRecord, ValueFault>
     ensures { result ≡ ok_or (more_promised paper (all_sheets quote)) (NoValue 3) }
 {
-    let promised = paper.promised() as u64 + quote.needed as u64 + quote.spoilt as u64;
-    StockRecord::build(&[paper.on_hand() as u64, promised, paper.price() as u64])
+    let promised = u64::from(paper.promised()) + u64::from(quote.needed) + u64::from(quote.spoilt);
+    StockRecord::build(&[paper.on_hand().into(), promised, paper.price().into()])
 }

@@ -1,10 +1,12 @@
 // Why an order is refused: the book has no such paper, or not enough of it. Either is carried up whole.
-ghost use Rattle.std.specs.Prelude.{◌≡◌};
+ghost use Rattle.std.specs.Prelude.{◌≡◌, Some};
 ghost use Rattle.estimate.specs.declared.fault.OrderFault.TheVariants.{NoPaper, NoStock};
-ghost use Rattle.estimate.specs.Fault.{told};
+ghost use Rattle.estimate.specs.Fault.{told, fault_text};
 
 use memory::fault::MemoryFault;
 use refusal::refusal::Refusal;
+use std::error::Error;
+use std::fmt;
 use value::fault::ValueFault;
 
 #[derive(Clone, Copy, PartialEq, Eq, Debug)]
@@ -15,18 +17,19 @@ pub enum OrderFault {
     NoStock(ValueFault),
 }
 
-impl OrderFault {
-    // The refusal as it began.
-    pub fn refusal(self) -> Refusal
-        ensures { result ≡ told self }
-    {
-        match self {
-            OrderFault::NoPaper(fault) => fault.refusal(),
-            OrderFault::NoStock(fault) => fault.refusal(),
+// The refusal as it began.
+impl From<OrderFault> for Refusal {
+    ghost from_gives = { λ fault r. r ≡ told fault };
+
+    fn from(fault: OrderFault) -> Refusal {
+        match fault {
+            OrderFault::NoPaper(memory) => memory.into(),
+            OrderFault::NoStock(value) => value.into(),
         }
     }
 }
 
+// Both by hand: a derived `From` states nothing of the fault that it makes.
 impl From<MemoryFault> for OrderFault {
     ghost from_gives = { λ cause r. r ≡ NoPaper cause };
 
@@ -42,3 +45,16 @@ impl From<ValueFault> for OrderFault {
         OrderFault::NoStock(cause)
     }
 }
+
+impl fmt::Display for OrderFault {
+    ghost output = { λ fault. Some (fault_text fault) };
+
+    fn fmt<W: fmt::Write>(&self, f: &mut fmt::Formatter<W>) -> fmt::Result {
+        f.write_str(match self {
+            OrderFault::NoPaper(_) => "the book has no such paper",
+            OrderFault::NoStock(_) => "not enough sheets are left to promise",
+        })
+    }
+}
+
+impl Error for OrderFault {}

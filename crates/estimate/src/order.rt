@@ -9,6 +9,8 @@ pub struct Order {
     pub pages: u16,
     // the place of the paper in the price book
     pub paper: u32,
+    // the terms that it is sold on
+    pub terms: Terms,
 }
 
 #[derive(Clone, Copy)]

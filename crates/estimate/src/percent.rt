@@ -8,7 +8,8 @@ pub struct Percent {
 }
 
 impl Percent {
-    // The percentage of this value, or none over 100.
+    // The percentage of this value, or none over 100. A constructor and no `TryFrom`: it is the test itself, and `None`
+    // says all that an error could.
     pub fn new(value: u8) -> Option<Percent>
         ensures { MatchOption result (100 < value) (λ p. p.value ≡ value) }
     {

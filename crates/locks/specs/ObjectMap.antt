@@ -6,7 +6,7 @@
 --   begun p starts           how many of the starts, from the first on, are not above p
 --   object_guard starts p    the lock of place p
 --   LastStart starts p i     i is the index of the last start not above p
-use Rattle.std.specs.Prelude.{ℕ, ◌+◌, ◌-◌, ◌<◌, ◌≤◌, Bool, true, false, cond, ◌&&◌, List, [], ◌∷◌, length, ◌==◌, nat_le, nat_lt, slice_index}
+use Rattle.std.specs.Prelude.{ℕ, ◌+◌, ◌-◌, ◌<◌, ◌≤◌, Bool, true, false, if◌then◌else◌, ◌&&◌, List, [], ◌∷◌, length, ◌==◌, nat_le, nat_lt, slice_index}
 
 -- no lawful list has more starts
 abbrev pub most_objects : ℕ
@@ -25,16 +25,16 @@ lawful (a ∷ rest) = a == 0 && nat_le (length (a ∷ rest)) most_objects && ris
 
 -- a lock for each object of a lawful list, and none otherwise
 abbrev pub object_locks : List ℕ → ℕ
-object_locks starts = cond (lawful starts) (length starts) 0
+object_locks starts = if lawful starts then length starts else 0
 
 -- how many starts, from the first on, are not above the place
 abbrev pub begun : ℕ → List ℕ → ℕ
 begun place [] = 0
-begun place (a ∷ rest) = cond (nat_le a place) (1 + begun place rest) 0
+begun place (a ∷ rest) = if nat_le a place then 1 + begun place rest else 0
 
 -- the index of the last start not above the place; with no locks the answer is 0
 abbrev pub object_guard : List ℕ → ℕ → ℕ
-object_guard starts place = cond (lawful starts) (begun place starts - 1) 0
+object_guard starts place = if lawful starts then begun place starts - 1 else 0
 
 -- i is the index of the last start not above the place
 pub record LastStart (starts : List ℕ) (place i : ℕ) : Type 0 where

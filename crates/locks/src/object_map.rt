@@ -1,41 +1,39 @@
 // The object map: a lock for each object, by the place at which it starts. The list of starts is lent
-// and looked over once, as the map is made; a place is then found by binary search.
-ghost use Rattle.std.specs.Prelude.{◌≡◌, ◌-◌, ◌<◌, ◌≤◌, true};
-ghost use Rattle.locks.specs.ObjectMap.{object_locks, object_guard, lawful, rising, LastStart};
+// and looked over once, as the map is made; a place is then found by halving the list.
+ghost use Rattle.std.specs.Prelude.{◌≡◌, ℕ, ◌<◌, length};
+ghost use Rattle.locks.specs.ObjectMap.{object_locks, object_guard, lawful, LastStart};
 
 use crate::lock_map::LockMap;
 
 // The most objects that a map may have.
 pub const MOST_OBJECTS: usize = 256;
 
+// The map keeps the starts it was given where they are lawful, and none otherwise.
 #[derive(Drop)]
 pub struct ObjectMap<'a> {
     starts: &'a [u32],
-    locks: u32,
-    ghost counts: { locks ≡ object_locks starts.now },
+    ghost counts: { object_locks starts.now ≡ length starts.now },
 }
 
 impl<'a> ObjectMap<'a> {
     // A map over these starts. Where they are not lawful it counts 0 locks.
-    pub fn new(starts: &'a [u32]) -> ObjectMap<'a>
-        ensures { result.starts.now ≡ starts.now }
+    pub fn new(starts: &'a [u32]) -> Self
+        ensures kept { 0 < object_locks starts.now → result.starts.now ≡ starts.now }
+        ensures locks { object_locks result.starts.now ≡ object_locks starts.now }
+        ensures guard { (p : ℕ) → object_guard result.starts.now p ≡ object_guard starts.now p }
     {
-        let locks = if is_lawful(starts) {
-            starts.len() as u32
-        } else {
-            0
-        };
-        ObjectMap { starts, locks }
+        let starts = if is_lawful(starts) { starts } else { &[] };
+        ObjectMap { starts }
     }
 }
 
-impl<'a> LockMap for ObjectMap<'a> {
+impl LockMap for ObjectMap<'_> {
     ghost locks = { λ m. object_locks m.starts.now };
 
     ghost guard = { λ m p. object_guard m.starts.now p };
 
     fn count(&self) -> u32 {
-        self.locks
+        self.starts.len() as u32
     }
 
     // With locks to count, the index of the last start not above the place.
@@ -45,10 +43,8 @@ impl<'a> LockMap for ObjectMap<'a> {
         ensures below { 0 < object_locks self.now.starts.now → result < object_locks self.now.starts.now }
         ensures last { 0 < object_locks self.now.starts.now → LastStart self.now.starts.now place result }
     {
-        if self.locks == 0 {
-            return 0;
-        }
-        starts_up_to(self.starts, place) - 1
+        let up_to = self.starts.partition_point(|start| *start <= place);
+        up_to.saturating_sub(1) as u32
     }
 }
 
@@ -56,34 +52,7 @@ impl<'a> LockMap for ObjectMap<'a> {
 fn is_lawful(starts: &[u32]) -> bool
     ensures { result ≡ lawful starts.now }
 {
-    let Some(first) = starts.first() else {
-        return false;
-    };
-    *first == 0 && starts.len() <= MOST_OBJECTS && rises(starts)
-}
-
-// Whether each start is above the one before it.
-fn rises(starts: &[u32]) -> bool
-    ensures { result ≡ rising starts.now }
-{
-    for i in 1..starts.len() {
-        if starts[i - 1] >= starts[i] {
-            return false;
-        }
-    }
-    true
-}
-
-// How many starts are not above the place. The first is 0, so there is one at least.
-fn starts_up_to(starts: &[u32], place: u32) -> u32
-    requires { lawful starts.now ≡ true }
-    ensures some { 1 ≤ result }
-    ensures last { LastStart starts.now place (result - 1) }
-{
-    match starts.binary_search(&place) {
-        Ok(i) => i as u32 + 1,
-        Err(i) => i as u32,
-    }
+    starts.first() == Some(&0) && starts.len() <= MOST_OBJECTS && starts.is_sorted_by(|a, b| a < b)
 }
 
 #[cfg(test)]
@@ -94,11 +63,7 @@ mod tests {
 
     // The starts 0, 10, 20 and so on.
     fn tens(heap: Global, count: u32) -> Result<Vec<u32>, AllocError> {
-        let mut starts = Vec::new(heap);
-        for i in 0..count {
-            starts.push(i.saturating_mul(10))?;
-        }
-        Ok(starts)
+        (0..count).map(|i| i.saturating_mul(10)).collect(heap)
     }
 
     #[test]

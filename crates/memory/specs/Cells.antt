@@ -4,7 +4,7 @@
 --   beyond cs      the cells past them, which it never touches
 --   loaded cs p    cell p, or the refusal of p where there is none
 --   stored cs p    done, or the refusal of p where there is no cell p
-use Rattle.std.specs.Prelude.{ℕ, cond, List, length, take, drop, Ok, Err, Result, nat_lt}
+use Rattle.std.specs.Prelude.{ℕ, if◌then◌else◌, List, length, take, drop, Ok, Err, Result, nat_lt}
 use Rattle.std.specs.List.{slice_get}
 use Rattle.std.specs.Option.{ok_or}
 use Rattle.memory.specs.declared.fault.MemoryFault.{MemoryFault}
@@ -28,4 +28,4 @@ loaded cells place = ok_or (slice_get cells place) (PastEnd place)
 
 -- done where there is a cell at the place, else a refusal that tells the place
 abbrev pub stored : {V : Type 0} → List V → ℕ → Result Unit MemoryFault
-stored cells place = cond (nat_lt place (length cells)) (Ok tt) (Err (PastEnd place))
+stored cells place = if nat_lt place (length cells) then Ok tt else Err (PastEnd place)

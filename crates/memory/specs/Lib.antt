@@ -1,3 +1,2 @@
 pub mod Fault
 pub mod Cells
-pub mod Places

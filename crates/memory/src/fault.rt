@@ -11,17 +11,16 @@ pub enum MemoryFault {
     PastEnd(u32),
 }
 
-impl MemoryFault {
-    // Number 23, the place asked for, layer 1.
-    pub fn refusal(self) -> Refusal
-        ensures { result ≡ told self }
-    {
-        match self {
-            MemoryFault::PastEnd(place) => Refusal {
-                number: 23,
-                detail: place as u64,
-                layer: Layer::Data,
-            },
+// Number 23, the place asked for, layer 1.
+impl From<MemoryFault> for Refusal {
+    ghost from_gives = { λ fault r. r ≡ told fault };
+
+    fn from(fault: MemoryFault) -> Refusal {
+        let MemoryFault::PastEnd(place) = fault;
+        Refusal {
+            number: 23,
+            detail: u64::from(place),
+            layer: Layer::Data,
         }
     }
 }

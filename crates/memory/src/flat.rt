@@ -1,9 +1,7 @@
 // The flat memory: the caller's cells, lent. Of more than 1,048,576 cells those past that number are
 // not part of it and are never touched.
-ghost use Rattle.std.specs.Prelude.{◌≡◌, ◌<◌, length, Some, slice_set};
-ghost use Rattle.std.specs.List.{slice_get};
+ghost use Rattle.std.specs.Prelude.{◌≡◌, slice_set};
 ghost use Rattle.memory.specs.Cells.{counted, beyond, stored};
-ghost use Rattle.memory.specs.Places.{Indexed};
 
 use crate::fault::MemoryFault;
 use crate::memory::{MOST_CELLS, Memory};
@@ -23,8 +21,10 @@ impl<'a, V: Copy> Memory for Flat<'a, V> {
     }
 
     fn load(&self, place: u32) -> Result<V, MemoryFault> {
-        let index = self.index_of(place)?;
-        Ok(read(self.cells, index))
+        self.cells[..self.count() as usize]
+            .get(place as usize)
+            .copied()
+            .ok_or(MemoryFault::PastEnd(place))
     }
 
     // Cells past the count stay as they are, and the memory stays on the cells that it was lent.
@@ -34,36 +34,12 @@ impl<'a, V: Copy> Memory for Flat<'a, V> {
         ensures rest { beyond self.new.cells.now ≡ beyond self.old.cells.now }
         ensures lender { self.new.cells.ghost_name ≡ self.old.cells.ghost_name }
     {
-        let index = self.index_of(place)?;
-        write(self.cells, index, value);
-        Ok(())
-    }
-}
-
-impl<'a, V: Copy> Flat<'a, V> {
-    // The index of the cell at a place, refused at or past the count.
-    fn index_of(&self, place: u32) -> Result<usize, MemoryFault>
-        ensures { Indexed self.now.cells.now place result }
-    {
         if place >= self.count() {
             return Err(MemoryFault::PastEnd(place));
         }
-        Ok(place as usize)
+        self.cells[place as usize] = value;
+        Ok(())
     }
-}
-
-fn read<V: Copy>(cells: &[V], index: usize) -> V
-    requires { index < length cells.now }
-    ensures { slice_get cells.now index ≡ Some result }
-{
-    cells[index]
-}
-
-fn write<V: Copy>(cells: &mut [V], index: usize, value: V)
-    requires { index < length cells.old }
-    ensures { cells.new ≡ slice_set cells.old index value }
-{
-    cells[index] = value;
 }
 
 #[cfg(test)]

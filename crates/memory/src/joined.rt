@@ -1,7 +1,7 @@
 // The joined memory: the cells of a second memory behind those of a first, up to 1,048,576 in all.
-ghost use Rattle.std.specs.Prelude.{◌≡◌, ◌++◌, length, slice_set};
+ghost use Rattle.std.specs.Prelude.{◌≡◌, ◌-◌, ◌<◌, ◌≤◌, ◌++◌, length, slice_set, IfOk, IfErr, SomeIff};
 ghost use Rattle.memory.specs.Cells.{counted, beyond, stored};
-ghost use Rattle.memory.specs.Places.{Located};
+ghost use Rattle.memory.specs.declared.fault.MemoryFault.TheVariants.{PastEnd};
 
 use crate::fault::MemoryFault;
 use crate::memory::{MOST_CELLS, Memory};
@@ -12,61 +12,50 @@ pub struct Joined<A, B> {
     pub second: B,
 }
 
-// Which of the two memories has a cell, and at which of its places.
-#[derive(Clone, Copy)]
-pub(crate) enum Half {
-    First(u32),
-    Second(u32),
-}
-
 impl<A: Memory, B: Memory<Value = A::Value>> Memory for Joined<A, B> {
     type Value = A::Value;
 
-    ghost cells = { λ m. counted (A.Memory.cells m.first ++ B.Memory.cells m.second) };
+    ghost cells = { λ m. counted (A.cells m.first ++ B.cells m.second) };
 
     fn count(&self) -> u32 {
         (self.first.count() + self.second.count()).min(MOST_CELLS)
     }
 
     fn load(&self, place: u32) -> Result<A::Value, MemoryFault> {
-        match self.locate(place)? {
-            Half::First(inner) => self.first.load(inner),
-            Half::Second(inner) => self.second.load(inner),
+        match self.place_in_second(place)? {
+            None => self.first.load(place),
+            Some(inner) => self.second.load(inner),
         }
     }
 
     // Cells of the two memories past the count stay as they are, and each keeps as many as it had.
     fn store(&mut self, place: u32, value: A::Value) -> Result<(), MemoryFault>
-        ensures answer { result ≡ stored (counted
-            (A.Memory.cells self.old.first ++ B.Memory.cells self.old.second)) place }
-        ensures after { counted (A.Memory.cells self.new.first ++ B.Memory.cells self.new.second)
-            ≡ slice_set (counted
-            (A.Memory.cells self.old.first ++ B.Memory.cells self.old.second)) place value }
-        ensures rest { beyond (A.Memory.cells self.new.first ++ B.Memory.cells self.new.second)
-            ≡ beyond (A.Memory.cells self.old.first ++ B.Memory.cells self.old.second) }
-        ensures seam { length (A.Memory.cells self.new.first) ≡ length (A.Memory.cells self.old.first) }
+        ensures answer { result ≡ stored (⟦<Self as Memory>⟧.cells self.old) place }
+        ensures after { ⟦<Self as Memory>⟧.cells self.new ≡ slice_set (⟦<Self as Memory>⟧.cells self.old) place value }
+        ensures rest { beyond (A.cells self.new.first ++ B.cells self.new.second)
+            ≡ beyond (A.cells self.old.first ++ B.cells self.old.second) }
+        ensures seam { length (A.cells self.new.first) ≡ length (A.cells self.old.first) }
     {
-        match self.locate(place)? {
-            Half::First(inner) => self.first.store(inner, value),
-            Half::Second(inner) => self.second.store(inner, value),
+        match self.place_in_second(place)? {
+            None => self.first.store(place, value),
+            Some(inner) => self.second.store(inner, value),
         }
     }
 }
 
 impl<A: Memory, B: Memory<Value = A::Value>> Joined<A, B> {
-    // Where the cell at a place lies, refused at or past the count with the place that was asked for.
-    fn locate(&self, place: u32) -> Result<Half, MemoryFault>
-        ensures { Located (A.Memory.cells self.now.first) (B.Memory.cells self.now.second) place result }
+    // Where in the second memory the cell at a place lies, or `None` where the first has it.
+    // Refused at or past the count, with the place that was asked for.
+    fn place_in_second(&self, place: u32) -> Result<Option<u32>, MemoryFault>
+        ensures ok { IfOk result (λ inner. (place < length (⟦<Self as Memory>⟧.cells self.now))
+            × SomeIff inner (length (A.cells self.now.first) ≤ place) (place - length (A.cells self.now.first))) }
+        ensures err { IfErr result (λ fault. (length (⟦<Self as Memory>⟧.cells self.now) ≤ place)
+            × (fault ≡ PastEnd place)) }
     {
-        let split = self.first.count();
         if place >= self.count() {
             return Err(MemoryFault::PastEnd(place));
         }
-        Ok(if place < split {
-            Half::First(place)
-        } else {
-            Half::Second(place - split)
-        })
+        Ok(place.checked_sub(self.first.count()))
     }
 }
 

@@ -1,10 +1,8 @@
 -- Every call keeps the invariant, granted or refused: the rows of the table, each with its lemma.
-use Rattle.std.proofs.Common.{◌≡◌, ℕ, zero, suc, ◌<◌, Bool, true, false, cond, ◌&&◌, ◌||◌, eqb, ltb, leb, List, [], ◌∷◌, ◌++◌, length, Option, Result, sym, refl, ap, ◌∙◌, subst, inl, inr, ⊎_elim, arith}
-use Rattle.std.specs.List.{slice_get}
-use Rattle.std.proofs.iter.runs.Lists.{none-some, same_Some}
-use Rattle.std.proofs.lemmas.Bool.{eqb-true, cond_both, cases_Bool, or_cases, and_parts, ltb-true, ltb-false, leb-false}
-use Rattle.locks.specs.LockWord.{word_of}
-use Rattle.locks.specs.declared.lock_word.Lock.{Lock}
+use Rattle.std.proofs.Common.{◌≡◌, ℕ, suc, ◌<◌, true, false, if◌then◌else◌, ◌&&◌, eqb, ltb, leb, List, [], ◌∷◌, ◌++◌, length, slice_get, Option, Result, sym, refl, ◌∙◌, subst, ⊎_elim, arith, rules}
+use Rattle.std.proofs.iter.runs.Lists.{none-some}
+use Rattle.std.proofs.lemmas.Option.{slice_get_cases}
+use Rattle.std.proofs.lemmas.Bool.{eqb-true, cond_both, or_cases, and_parts, ltb-true, ltb-false, leb-false}
 use Rattle.memory.specs.declared.fault.MemoryFault.{MemoryFault}
 use Rattle.model.specs.declared.outcome.Outcome.{Outcome}
 use Rattle.model.specs.declared.slot_state.SlotState.{SlotState}
@@ -17,55 +15,31 @@ use Rattle.model.specs.Step.{Reply, refused, answers, where_cell, where_free, no
 use Rattle.model.specs.Advance.{check_next, undo_next, unlock_next}
 use Rattle.model.specs.Table.{is_advance, verdict, free_row, open_row, closing_row, row, where_fit, step}
 use Rattle.model.specs.Event.{validates, nothing, answered}
-use Rattle.model.specs.Job.{Closing, Job, job_after, counted, job}
+use Rattle.model.specs.Job.{Closing, job}
 use Rattle.model.specs.History.{line, in_turn}
 use Rattle.model.specs.Law.{Alone}
 use Rattle.model.proofs.Tables.{lock_found}
-use Rattle.model.proofs.Place.{Act, Fits, here, fits_append, here-append, alone_here}
+use Rattle.model.proofs.Place.{fits_append, here-append, alone_here}
 use Rattle.model.proofs.Line.{along_fits}
-use Rattle.model.proofs.Locks.{Status, unheld, taken, word, Owner, Current, owner_tested, free_tested, read_free, read_held}
-use Rattle.model.proofs.States.{Busy, Live, Kept, Logs, Ends}
-use Rattle.model.proofs.Invariant.{Saved, World, Logged, slot_at, acts_at, base_at, view_at, ByCall, Invariant}
-use Rattle.model.proofs.Worlds.{by}
-use Rattle.model.proofs.Opening.{stays_same, begun, unclosed, noted, loaded}
+use Rattle.model.proofs.Locks.{unheld, Owner, Current, owner_tested}
+use Rattle.model.proofs.States.{Busy, Live, Logs}
+use Rattle.model.proofs.Invariant.{Saved, World, Logged, slot_at, view_at, ByCall, Invariant}
+use Rattle.model.proofs.Worlds.{by, same_world}
+use Rattle.model.proofs.Opening.{stays_same, begun, noted, loaded}
 use Rattle.model.proofs.Changing.{acquired, stored}
 use Rattle.model.proofs.Checking.{commit_asked, abort_asked, entry_passed, entry_stale, committed}
 use Rattle.model.proofs.Ending.{undone, restored, released, ended}
 
 -- look-ups that succeed
 slice_get_there : {A : Type 0} (xs : List A) (i : ℕ) → i < length xs → (x : A) × (slice_get xs i ≡ Option.Some x)
-slice_get_there [] i below = absurd (omega arith)
-slice_get_there (x ∷ xs) zero below = (x, refl)
-slice_get_there (x ∷ xs) (suc i) below = slice_get_there xs i (omega arith)
+slice_get_there xs i below = grind (arith, slice_get_cases xs i)
 
-entry_found : (xs : List Entry) (x : Entry) → has_entry xs x ≡ true
-    → (i : ℕ) × (y : Entry) × (slice_get xs i ≡ Option.Some y) × (y.lock ≡ x.lock) × (y.version ≡ x.version)
-entry_found [] x e = absurd (let z : ◌≡◌ {A = ℕ} 0 1 = cc in omega arith)
+entry_found : (xs : List Entry) (x : Entry) → has_entry xs x ≡ true → (i : ℕ) × (slice_get xs i ≡ Option.Some x)
+entry_found [] x e = cc
 entry_found (y ∷ xs) x e =
-    ⊎_elim (λ here_is. let both = and_parts (eqb y.lock x.lock) (eqb y.version x.version) here_is in
-    (0, y, refl, eqb-true y.lock x.lock both.0, eqb-true y.version x.version both.1))
-    (λ there. let f = entry_found xs x there in (suc f.0, f.1, f.2, f.3, f.4))
+    ⊎_elim (λ here_is. (0, grind (arith, and_parts, eqb-true)))
+    (λ there. let f = entry_found xs x there in (suc f.0, f.1))
     (or_cases (eqb y.lock x.lock && eqb y.version x.version) (has_entry xs x) e)
-
--- a slot without a job is not closing
-free_unclosed : (state : SlotState) (r u h work : ℕ) (c : Option Closing) → (Busy state → ⊥)
-    → Ends state r u h work c → c ≡ Option.None
-free_unclosed SlotState.Free r u h work c none ends = ends
-free_unclosed SlotState.Open r u h work c none ends = absurd (none tt)
-free_unclosed (SlotState.Checking i) r u h work c none ends = absurd (none tt)
-free_unclosed (SlotState.Unlocking i o) r u h work c none ends = absurd (none tt)
-free_unclosed SlotState.Undoing r u h work c none ends = absurd (none tt)
-
-live_kept : (state : SlotState) (i : ℕ) → Live state → Kept state i
-live_kept SlotState.Free i l = l
-live_kept SlotState.Open i l = tt
-live_kept (SlotState.Checking k) i l = tt
-live_kept (SlotState.Unlocking k o) i l = absurd l
-live_kept SlotState.Undoing i l = tt
-
-counted_refused : {V : Type 0} (advance : Bool) (j : Job V) → job_after nothing (counted (advance && false) j) ≡ j
-counted_refused true j = refl
-counted_refused false j = refl
 
 module _ {V : Type 0} (parts : Parts) (first : List V) (w : World V) (inv : Invariant parts first w) (s : ℕ) where
   abbrev engine : Engine V
@@ -94,17 +68,10 @@ module _ {V : Type 0} (parts : Parts) (first : List V) (w : World V) (inv : Inva
   turned_down : (called : Step V) (fault : EngineFault) → ByCall (is_advance called) false (closing ≡ Option.None)
       → Next called (refused engine fault)
   turned_down called fault clean = record {
-    world = record {
-      engine = engine;
-      status = w.status;
-      logs = w.logs;
-      past = by s (is_advance called) false
-          nothing ∷ w.past;
-    };
+    world = same_world w s (by s (is_advance called) false nothing);
     engine_is = refl;
     past_is = refl;
-    kept = stays_same parts first w s inv (is_advance called) false nothing (counted_refused (is_advance called)
-        (job s w.past)) refl (λ _. refl)
+    kept = stays_same parts first w s inv (is_advance called) false nothing (search rules) refl (λ _. refl)
         (tt, clean);
   }
 
@@ -113,14 +80,9 @@ module _ {V : Type 0} (parts : Parts) (first : List V) (w : World V) (inv : Inva
       → answered parts.guard s called (Result.Ok answer) ≡ by s false true nothing → closing ≡ Option.None
       → Next called (answers engine answer)
   told_nothing called answer event idle = record {
-    world = record {
-      engine = engine;
-      status = w.status;
-      logs = w.logs;
-      past = by s false true nothing ∷ w.past;
-    };
+    world = same_world w s (by s false true nothing);
     engine_is = refl;
-    past_is = ap (λ e. e ∷ w.past) (sym event);
+    past_is = search rules;
     kept = stays_same parts first w s inv false true nothing refl refl (λ _. refl) (tt, idle);
   }
 
@@ -129,58 +91,41 @@ module _ {V : Type 0} (parts : Parts) (first : List V) (w : World V) (inv : Inva
     by_cell : (p : ℕ) (found : Option V) (next : V → Reply V)
         → P (refused engine (EngineFault.Memory (MemoryFault.PastEnd p)))
         → ((x : V) → found ≡ Option.Some x → P (next x)) → P (where_cell engine p found next)
-    by_cell p Option.None next none some = none
-    by_cell p (Option.Some x) next none some = some x refl
+    by_cell p found next none some = search rules
 
     cell_there : (p : ℕ) (found : Option V) (next : V → Reply V) (x : V) → found ≡ Option.Some x → P (next x)
         → P (where_cell engine p found next)
-    cell_there p found next x is then_so = subst (λ z. P (where_cell engine p z next)) (sym is) then_so
+    cell_there p found next x is then_so = search rules
 
     by_lock : (l : ℕ) (next : ℕ → Reply V) → ((t : ℕ) → P (refused engine (EngineFault.HeldByOther t)))
         → ((v : ℕ) → w.status l ≡ unheld v → P (next v)) → P (where_free engine (read_word (engine.words l)) next)
-    by_lock l next other free =
-        subst (λ z. P (where_free engine (read_word z) next)) (sym (inv.words l)) (go (w.status l) refl)
-      where
-        go : (k : Status) → w.status l ≡ k → P (where_free engine (read_word (word k)) next)
-        go (unheld v) is = subst (λ z. P (where_free engine z next)) (sym (read_free v)) (free v is)
-        go (taken t v) is = subst (λ z. P (where_free engine z next)) (sym (read_held t v)) (other t)
+    by_lock l next other free = search rules
 
   owner_of : (l : ℕ) → holds engine s l ≡ true → Owner s (w.status l)
-  owner_of l e = owner_tested s (w.status l) (subst (λ z. eqb z (word_of (Lock.Held s)) ≡ true) (inv.words l) e)
+  owner_of l e = search (rules, owner_tested)
 
   -- a good entry is sound
   good_current : (x : Entry) → Live own.state → good engine s x ≡ true → Current s (w.status x.lock) x
-  good_current x live e =
-      ⊎_elim (λ free. inl (free_tested x.version (w.status x.lock)
-      (subst (λ z. eqb z (word_of (Lock.Free x.version)) ≡ true) (inv.words x.lock) free)))
-      (λ both. let parts_of = and_parts (holds engine s x.lock) (has_entry own.held x) both in
-      let f = entry_found own.held x parts_of.1 in
-      let taken_is = (inv.tables s).owns f.0 f.1 f.2 (live_kept own.state f.0 live) in
-      inr (ap w.status (sym f.3) ∙ taken_is ∙ ap (taken s) f.4))
-      (or_cases (eqb (engine.words x.lock) (word_of (Lock.Free x.version)))
-      (holds engine s x.lock && has_entry own.held x) e)
+  good_current x live e = search (rules, entry_found own.held x)
 
   -- a free slot
   pub free_next : own.state ≡ SlotState.Free → (unfit parts (length engine.cells) (length engine.undo)
       ≡ Option.None) × (s < slot_count)
       → (called : Step V) → Next called (free_row engine s called)
   free_next is fit Step.Begin = shown Step.Begin Answer.Begun _ refl (begun parts first w s inv is fit)
-  free_next is fit (Step.Note p) = turned_down (Step.Note p) (EngineFault.WrongState own.state) tt
-  free_next is fit (Step.Load p) = turned_down (Step.Load p) (EngineFault.WrongState own.state) tt
-  free_next is fit (Step.Acquire p) = turned_down (Step.Acquire p) (EngineFault.WrongState own.state) tt
-  free_next is fit (Step.Store p x) = turned_down (Step.Store p x) (EngineFault.WrongState own.state) tt
-  free_next is fit Step.Check = turned_down Step.Check (EngineFault.WrongState own.state) tt
-  free_next is fit Step.Commit = turned_down Step.Commit (EngineFault.WrongState own.state) tt
-  free_next is fit Step.Advance =
-      turned_down Step.Advance (EngineFault.WrongState own.state)
-      (subst (λ z. Ends z (length own.reads) (length own.changed) (length own.held) (job s w.past).work
-      closing) is (inv.tables s).ending)
-  free_next is fit Step.Abort = turned_down Step.Abort (EngineFault.WrongState own.state) tt
+  free_next is fit (Step.Note p) = turned_down _ _ tt
+  free_next is fit (Step.Load p) = turned_down _ _ tt
+  free_next is fit (Step.Acquire p) = turned_down _ _ tt
+  free_next is fit (Step.Store p x) = turned_down _ _ tt
+  free_next is fit Step.Check = turned_down _ _ tt
+  free_next is fit Step.Commit = turned_down _ _ tt
+  free_next is fit Step.Advance = turned_down _ _ (search rules)
+  free_next is fit Step.Abort = turned_down _ _ tt
 
   -- an open slot
   module _ (is_open : own.state ≡ SlotState.Open) where
     idle : closing ≡ Option.None
-    idle = (unclosed parts first w s inv is_open).0
+    idle = search rules
 
     note_next : (p : ℕ) → Next (Step.Note p) (note parts engine s p)
     note_next p =
@@ -200,14 +145,7 @@ module _ {V : Type 0} (parts : Parts) (first : List V) (w : World V) (inv : Inva
     load_next : (p : ℕ) → Next (Step.Load p) (load parts engine s p)
     load_next p =
         by_cell (Next (Step.Load p)) p (slice_get engine.cells p) _ (turned_down (Step.Load p) _ tt) λ x at.
-        cond_both (holds engine s l || has_lock own.reads l) _ _ (Next (Step.Load p))
-        (λ reach. shown (Step.Load p) (Answer.Value x) _ refl (loaded parts first w s inv is_open p x at
-        (⊎_elim (λ mine. inl (owner_of l mine)) (λ has. inr has)
-        (or_cases (holds engine s l) (has_lock own.reads l) reach))))
-        (λ _. turned_down (Step.Load p) _ tt)
-      where
-        l : ℕ
-        l = parts.guard p
+        search (rules, turned_down, shown (Step.Load p), loaded parts first w s inv is_open p x at, owner_of)
 
     acquire_next : (p : ℕ) → Next (Step.Acquire p) (acquire parts engine s p)
     acquire_next p =
@@ -226,39 +164,19 @@ module _ {V : Type 0} (parts : Parts) (first : List V) (w : World V) (inv : Inva
 
     store_next : (p : ℕ) (new : V) → Next (Step.Store p new) (store parts engine s p new)
     store_next p new =
-        by_cell (Next (Step.Store p new)) p (slice_get engine.cells p) _
-        (turned_down (Step.Store p new) _ tt) λ old at.
-        cond_both (holds engine s l) _ _ (Next (Step.Store p new))
+        by_cell (Next (Step.Store p new)) p (slice_get engine.cells p) _ (turned_down (Step.Store p new) _ tt) λ old at.
+        cond_both (holds engine s (parts.guard p)) _ _ (Next (Step.Store p new))
         (λ mine. cond_both (leb most_records (length own.changed)) _ _ (Next (Step.Store p new))
         (λ _. turned_down (Step.Store p new) _ tt)
         (λ room. shown (Step.Store p new) Answer.Stored _ refl
-        (stored parts first w s inv is_open p old new (owner_of l mine) at
-        (leb-false most_records (length own.changed) room))))
+        (stored parts first w s inv is_open p old new (owner_of (parts.guard p) mine) at (search rules))))
         (λ _. turned_down (Step.Store p new) _ tt)
-      where
-        l : ℕ
-        l = parts.guard p
 
     -- where no entry is stale, all are good
     all_good : (xs : List Entry) → first_stale engine s xs ≡ Option.None → (i : ℕ) (x : Entry)
         → slice_get xs i ≡ Option.Some x → good engine s x ≡ true
     all_good [] none i x at = absurd (none-some x at)
-    all_good (y ∷ xs) none i x at =
-        ⊎_elim (λ g. here_or_there g (all_good xs (split g)) i at) (λ b. absurd (stale_there b))
-        (cases_Bool (good engine s y))
-      where
-        split : good engine s y ≡ true → first_stale engine s xs ≡ Option.None
-        split g = sym (ap (λ b. cond b (first_stale engine s xs) (Option.Some y.lock)) g) ∙ none
-
-        stale_there : good engine s y ≡ false → ⊥
-        stale_there b = none-some y.lock (sym none
-            ∙ ap (λ z. cond z (first_stale engine s xs) (Option.Some y.lock)) b)
-
-        here_or_there : good engine s y ≡ true → ((k : ℕ) (z : Entry) → slice_get xs k ≡ Option.Some z
-            → good engine s z ≡ true)
-            → (k : ℕ) → slice_get (y ∷ xs) k ≡ Option.Some x → good engine s x ≡ true
-        here_or_there g more zero e = subst (λ z. good engine s z ≡ true) (same_Some y x e) g
-        here_or_there g more (suc k) e = more k x e
+    all_good (y ∷ xs) none i x at = search (rules, all_good xs)
 
     -- a check that answers good saw one consistent book
     good_alone : first_stale engine s own.reads ≡ Option.None
@@ -266,27 +184,7 @@ module _ {V : Type 0} (parts : Parts) (first : List V) (w : World V) (inv : Inva
     good_alone none =
         alone_here (in_turn (line w.past) ++ (job s w.past).ops) first λ p.
         let so_far = along_fits (view_at parts w p) p (slice_get first p) (line w.past) (inv.along p) in
-        let o = here p (in_turn (line w.past)) in
-        subst (λ (z : List (Act V)). Fits z (slice_get first p))
-        (sym (here-append p (in_turn (line w.past)) (job s w.past).ops))
-        (fits_append o (acts_at w s p) (slice_get first p) so_far.0
-        (subst (Fits (acts_at w s p)) so_far.1 (fits p)))
-      where
-        live : Live own.state
-        live = subst Live (sym is_open) tt
-
-        fits : (p : ℕ) → Fits (acts_at w s p) (base_at parts w p)
-        fits p =
-            ⊎_elim (λ has. let f = lock_found own.reads (parts.guard p) has in
-            let current = good_current f.1 live (all_good own.reads none f.0 f.1 f.2) in
-            (inv.jobs s p live).sound (record {
-              index = f.0;
-              entry = f.1;
-              found = f.2;
-              names = f.3;
-              current = subst (λ l. Current s (w.status l) f.1) f.3 current;
-            }))
-            (λ unnoted. (inv.jobs s p live).unnoted unnoted) (cases_Bool (has_lock own.reads (parts.guard p)))
+        search (rules, here-append, fits_append, lock_found, good_current, all_good)
 
     check_next_open : Next Step.Check (answers engine (verdict (first_stale engine s own.reads)))
     check_next_open = go (first_stale engine s own.reads) refl
@@ -295,38 +193,24 @@ module _ {V : Type 0} (parts : Parts) (first : List V) (w : World V) (inv : Inva
             → Next Step.Check (answers engine (verdict found))
         go (Option.Some l) is = told_nothing Step.Check (Answer.Stale l) refl idle
         go Option.None is =
-            shown Step.Check Answer.Good (record {
-              engine = engine;
-              status = w.status;
-              logs = w.logs;
-              past = by s
-                  false true validates ∷ w.past;
-            }) refl
+            shown Step.Check Answer.Good (same_world w s (by s false true validates)) refl
             (stays_same parts first w s inv false true validates refl refl (λ _. refl) (good_alone is, idle))
 
     pub open_next : (called : Step V) → Next called (open_row parts engine s called)
-    open_next Step.Begin = turned_down Step.Begin (EngineFault.WrongState own.state) tt
+    open_next Step.Begin = turned_down _ _ tt
     open_next (Step.Note p) = note_next p
     open_next (Step.Load p) = load_next p
     open_next (Step.Acquire p) = acquire_next p
     open_next (Step.Store p x) = store_next p x
     open_next Step.Check = check_next_open
     open_next Step.Commit = shown Step.Commit Answer.Checking _ refl (commit_asked parts first w s inv is_open)
-    open_next Step.Advance = turned_down Step.Advance (EngineFault.WrongState own.state) idle
+    open_next Step.Advance = turned_down _ _ idle
     open_next Step.Abort = shown Step.Abort Answer.Undoing _ refl (abort_asked parts first w s inv is_open)
 
   -- a closing slot takes no other step
   pub closing_next : (reply : Reply V) → Next Step.Advance reply → (called : Step V)
       → Next called (closing_row engine s reply called)
-  closing_next reply next Step.Begin = turned_down Step.Begin (EngineFault.WrongState own.state) tt
-  closing_next reply next (Step.Note p) = turned_down (Step.Note p) (EngineFault.WrongState own.state) tt
-  closing_next reply next (Step.Load p) = turned_down (Step.Load p) (EngineFault.WrongState own.state) tt
-  closing_next reply next (Step.Acquire p) = turned_down (Step.Acquire p) (EngineFault.WrongState own.state) tt
-  closing_next reply next (Step.Store p x) = turned_down (Step.Store p x) (EngineFault.WrongState own.state) tt
-  closing_next reply next Step.Check = turned_down Step.Check (EngineFault.WrongState own.state) tt
-  closing_next reply next Step.Commit = turned_down Step.Commit (EngineFault.WrongState own.state) tt
-  closing_next reply next Step.Advance = next
-  closing_next reply next Step.Abort = turned_down Step.Abort (EngineFault.WrongState own.state) tt
+  closing_next reply next called = search (rules, turned_down)
 
   checking_next : (i : ℕ) → own.state ≡ SlotState.Checking i
       → Next Step.Advance (check_next engine s i (slice_get own.reads i))
@@ -337,7 +221,7 @@ module _ {V : Type 0} (parts : Parts) (first : List V) (w : World V) (inv : Inva
       go (Option.Some x) at =
           cond_both (good engine s x) _ _ (Next Step.Advance)
           (λ g. shown Step.Advance (Answer.Passed x.lock) _ refl
-          (entry_passed parts first w s inv i is x at (good_current x (subst Live (sym is) tt) g)))
+          (entry_passed parts first w s inv i is x at (good_current x (rw is tt) g)))
           (λ _. shown Step.Advance (Answer.Stale x.lock) _ refl (entry_stale parts first w s inv i is x at))
       go Option.None end = shown Step.Advance Answer.Committed _ refl (committed parts first w s inv i is end)
 
@@ -377,32 +261,20 @@ module _ {V : Type 0} (parts : Parts) (first : List V) (w : World V) (inv : Inva
 
   row_next : (unfit parts (length engine.cells) (length engine.undo) ≡ Option.None) × (s < slot_count)
       → (state : SlotState) → own.state ≡ state → (called : Step V) → Next called (row parts engine s state called)
-  row_next fit SlotState.Free is = free_next is fit
-  row_next fit SlotState.Open is = open_next is
-  row_next fit (SlotState.Checking i) is = closing_next
-      (check_next engine s i (slice_get own.reads i)) (checking_next i is)
-  row_next fit (SlotState.Unlocking i o) is = closing_next
-      (unlock_next engine s i o (slice_get own.held i)) (unlocking_next i o is)
-  row_next fit SlotState.Undoing is = closing_next (undo_next engine s own.changed) (undoing_next is)
+  row_next fit state is called =
+      search (rules, free_next, open_next, closing_next, checking_next, unlocking_next, undoing_next)
 
   -- a slot that cannot have a job is not closing
   idle_clean : (Busy own.state → ⊥) → (called : Step V) → ByCall (is_advance called)
       false (closing ≡ Option.None)
-  idle_clean none called = go (is_advance called)
-    where
-      go : (b : Bool) → ByCall b false (closing ≡ Option.None)
-      go true =
-          free_unclosed own.state (length own.reads) (length own.changed) (length own.held)
-          (job s w.past).work closing none
-          (inv.tables s).ending
-      go false = tt
+  idle_clean none called = search rules
 
   pub call_next : (called : Step V) → Next called (step parts engine (record { slot = s; step = called }))
   call_next called = go (unfit parts (length engine.cells) (length engine.undo)) refl
     where
       table : Reply V
-      table = cond (ltb s slot_count) (row parts engine s own.state called)
-          (refused engine (EngineFault.NoSlot s))
+      table =
+          if ltb s slot_count then row parts engine s own.state called else refused engine (EngineFault.NoSlot s)
 
       go : (found : Option EngineFault) → unfit parts (length engine.cells) (length engine.undo) ≡ found
           → Next called (where_fit parts engine found table)

@@ -1,7 +1,6 @@
 -- What holds after every list of calls. The plain engine's state is kept together with what its tables do not show:
 -- the status of each lock, the undo records with their old values, and the history.
-use Rattle.std.proofs.Common.{◌≡◌, ℕ, ◌<◌, ◌≤◌, Bool, true, false, cond, eqb, List, [], ◌∷◌, ◌++◌, length, Option}
-use Rattle.std.specs.List.{slice_get}
+use Rattle.std.proofs.Common.{◌≡◌, ℕ, ◌<◌, ◌≤◌, Bool, true, false, cond, eqb, List, [], ◌∷◌, ◌++◌, length, slice_get, Option}
 use Rattle.model.specs.Limits.{slot_count, most_records, undo_place}
 use Rattle.model.specs.Engine.{Parts, Entry, Slot, Engine, has_lock, unfit}
 use Rattle.model.specs.Event.{Op, Deed, begins, notes, does, takes, validates, asks, quits, commits, frees, ends, nothing, History}

@@ -16,4 +16,3 @@ pub mod Checking
 pub mod Ending
 pub mod Calls
 pub mod Runs
-pub mod Refusals

@@ -1,16 +1,13 @@
 -- The world after an event of slot s, and what of the step is the same for every event.
-use Rattle.std.proofs.Common.{◌≡◌, ℕ, ◌+◌, ◌<◌, ◌≤◌, Bool, true, false, cond, not, ◌&&◌, ◌||◌, eqb, ◌⊎◌, List, ◌∷◌, length, Option, sym, refl, ap, ◌∙◌, subst, inl, inr, ⊎_elim, arith}
-use Rattle.std.specs.List.{slice_get}
-use Rattle.std.proofs.lemmas.Bool.{eq-eqb, ne_eqb, cases_eq}
+use Rattle.std.proofs.Common.{◌≡◌, ℕ, ◌<◌, Bool, ◌&&◌, ◌⊎◌, List, ◌∷◌, length, slice_get, refl, rules}
 use Rattle.model.specs.Limits.{most_records, undo_place}
 use Rattle.model.specs.Engine.{Parts, Slot, updated}
 use Rattle.model.specs.Event.{Deed, Event}
-use Rattle.model.specs.Job.{Closing, Job, job_after, counted, one_more, job}
-use Rattle.model.proofs.Tables.{updated_here, updated_there, updated_each}
-use Rattle.model.proofs.Locks.{Status, unheld, taken, word, is_taken, Owner, Moves, stays}
-use Rattle.model.proofs.States.{Left}
+use Rattle.model.specs.Job.{Job, job_after, counted, job}
+use Rattle.model.proofs.Tables.{updated_each}
+use Rattle.model.proofs.Locks.{Status, word, Owner, Moves, stays}
 use Rattle.model.proofs.Invariant.{Saved, World, slot_at, cell_at, status_at, base_at, Ranged, Invariant}
-use Rattle.model.proofs.Carry.{job_own, job_other, Goes}
+use Rattle.model.proofs.Carry.{Goes}
 
 -- an event of slot s
 abbrev pub by : {V : Type 0} → ℕ → Bool → Bool → Deed V → Event V
@@ -42,48 +39,12 @@ module _ {V : Type 0} (parts : Parts) (first : List V) (w : World V) (s : ℕ) (
 
   pub goes_same : Goes parts w (same_world w s (by s advance granted deed)) s (by s advance granted deed)
       (slot_at w s) (w.logs s) after
-  goes_same = record {
-    frame = record {
-      slots = λ _ _. refl;
-      logs = λ _ _. refl;
-      jobs = job_other (by s advance granted deed) w.past;
-      moves = λ _. stays refl;
-      count = refl;
-      undo_count = refl;
-      undo = λ _ _ _ _. refl;
-      cells = λ _. inl refl;
-      bases = λ _. inl refl;
-    };
-    words = inv.words;
-    ranged = inv.ranged;
-    past_is = refl;
-    slot_is = refl;
-    log_is = refl;
-    job_is = job_own (by s advance granted deed) w.past;
-  }
+  goes_same = search rules
 
   pub goes_slot : (slot : Slot)
       → Goes parts w (slot_world w s slot (by s advance granted deed)) s
       (by s advance granted deed) slot (w.logs s) after
-  goes_slot slot = record {
-    frame = record {
-      slots = updated_there w.engine.slots s slot;
-      logs = λ _ _. refl;
-      jobs = job_other (by s advance granted deed) w.past;
-      moves = λ _. stays refl;
-      count = refl;
-      undo_count = refl;
-      undo = λ _ _ _ _. refl;
-      cells = λ _. inl refl;
-      bases = λ _. inl refl;
-    };
-    words = inv.words;
-    ranged = inv.ranged;
-    past_is = refl;
-    slot_is = updated_here w.engine.slots s slot;
-    log_is = refl;
-    job_is = job_own (by s advance granted deed) w.past;
-  }
+  goes_slot slot = search rules
 
   -- a lock changes too
   pub goes_lock : (slot : Slot) (l : ℕ) (k : Status) → Moves s (w.status l) k → Ranged parts k
@@ -92,30 +53,11 @@ module _ {V : Type 0} (parts : Parts) (first : List V) (w : World V) (s : ℕ) (
       w.logs (by s advance granted deed) in
       ((p : ℕ) → base_at parts w' p ≡ base_at parts w p)
       → Goes parts w w' s (by s advance granted deed) slot (w.logs s) after
-  goes_lock slot l k moved within bases = record {
-    frame = record {
-      slots = updated_there w.engine.slots s slot;
-      logs = λ _ _. refl;
-      jobs = job_other (by s advance granted deed) w.past;
-      moves = updated_each w.status l k (λ q a. Moves s (w.status q) a) moved (λ _ _. stays refl);
-      count = refl;
-      undo_count = refl;
-      undo = λ _ _ _ _. refl;
-      cells = λ _. inl refl;
-      bases = λ p. inl (bases p);
-    };
-    words = λ q. alike (eqb q l) (inv.words q);
-    ranged = updated_each w.status l k (λ _ a. Ranged parts a) within (λ q _. inv.ranged q);
-    past_is = refl;
-    slot_is = updated_here w.engine.slots s slot;
-    log_is = refl;
-    job_is = job_own (by s advance granted deed) w.past;
-  }
-    where
-      alike : {q : ℕ} (b : Bool) → w.engine.words q ≡ word (w.status q) → cond b (word k) (w.engine.words q)
-          ≡ word (cond b k (w.status q))
-      alike true e = refl
-      alike false e = e
+  goes_lock slot l k moved within bases =
+      let moves : (q : ℕ) → Moves s (w.status q) (updated w.status l k q) =
+      updated_each w.status l k (λ q a. Moves s (w.status q) a) moved (λ _ _. stays refl) in
+      let ranged : (q : ℕ) → Ranged parts (updated w.status l k q) =
+      updated_each w.status l k (λ _ a. Ranged parts a) within (λ q _. inv.ranged q) in search rules
 
   -- cells and records change
   pub goes_cells : (cells undo : List V) (slot : Slot) (log : List (Saved V))
@@ -127,46 +69,4 @@ module _ {V : Type 0} (parts : Parts) (first : List V) (w : World V) (s : ℕ) (
       → ((p : ℕ) → (slice_get cells p ≡ cell_at w p) ⊎ Owner s (status_at parts w p))
       → ((p : ℕ) → (base_at parts w' p ≡ base_at parts w p) ⊎ Owner s (status_at parts w p))
       → Goes parts w w' s (by s advance granted deed) slot log after
-  goes_cells cells undo slot log count undo_count undo_kept cells_kept bases = record {
-    frame = record {
-      slots = updated_there w.engine.slots s slot;
-      logs = updated_there w.logs s log;
-      jobs = job_other (by s advance granted deed) w.past;
-      moves = λ _. stays refl;
-      count = count;
-      undo_count = undo_count;
-      undo = undo_kept;
-      cells = λ p. ⊎_elim (λ same. inl same) (λ o. inr (o, o)) (cells_kept p);
-      bases = λ p. ⊎_elim (λ same. inl same) (λ o. inr (o, o)) (bases p);
-    };
-    words = inv.words;
-    ranged = inv.ranged;
-    past_is = refl;
-    slot_is = updated_here w.engine.slots s slot;
-    log_is = updated_here w.logs s log;
-    job_is = job_own (by s advance granted deed) w.past;
-  }
-
--- one advance more
-pub left_more : (c : Option Closing) (n m : ℕ) → m + 1 ≤ n → Left c n → Left (one_more c) m
-left_more Option.None n m less left = left
-left_more (Option.Some c) n m less left = omega arith
-
--- the locks that a trace tells as held are those that are taken
-pub held_taken : (was : ℕ → Bool) (status : ℕ → Status) (l s v : ℕ) → ((q : ℕ) → was q ≡ is_taken (status q))
-    → (q : ℕ) → (eqb l q || was q) ≡ is_taken (updated status l (taken s v) q)
-held_taken was status l s v tied q =
-    ⊎_elim (λ is. ap (λ b. b || was q) (eq-eqb l q (sym is))
-    ∙ ap is_taken (sym (subst (λ z. updated status l (taken s v) z ≡ taken s v) (sym is)
-    (updated_here status l (taken s v)))))
-    (λ ne. ap (λ b. b || was q) (ne_eqb l q (λ is. ne (sym is))) ∙ tied q
-    ∙ ap is_taken (sym (updated_there status l (taken s v) q ne))) (cases_eq q l)
-
-pub held_freed : (was : ℕ → Bool) (status : ℕ → Status) (l v : ℕ) → ((q : ℕ) → was q ≡ is_taken (status q))
-    → (q : ℕ) → (not (eqb l q) && was q) ≡ is_taken (updated status l (unheld v) q)
-held_freed was status l v tied q =
-    ⊎_elim (λ is. ap (λ b. not b && was q) (eq-eqb l q (sym is))
-    ∙ ap is_taken (sym (subst (λ z. updated status l (unheld v) z ≡ unheld v) (sym is)
-    (updated_here status l (unheld v)))))
-    (λ ne. ap (λ b. not b && was q) (ne_eqb l q (λ is. ne (sym is))) ∙ tied q
-    ∙ ap is_taken (sym (updated_there status l (unheld v) q ne))) (cases_eq q l)
+  goes_cells cells undo slot log count undo_count undo_kept cells_kept bases = search rules

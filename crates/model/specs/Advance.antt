@@ -2,8 +2,7 @@
 --   check_next i x       checking, with the entry x left at i, or none
 --   undo_next ps         undoing, with the records of the places ps left
 --   unlock_next i o x    unlocking with outcome o, with the held entry x left at i, or none
-use Rattle.std.specs.Prelude.{ℕ, ◌+◌, cond, List, [], ◌∷◌, length, Option, slice_set}
-use Rattle.std.specs.List.{slice_get}
+use Rattle.std.specs.Prelude.{ℕ, ◌+◌, List, [], ◌∷◌, length, Option, if◌then◌else◌, slice_get, slice_set}
 use Rattle.locks.specs.declared.lock_word.Lock.{Lock}
 use Rattle.model.specs.declared.outcome.Outcome.{Outcome}
 use Rattle.model.specs.declared.slot_state.SlotState.{SlotState}
@@ -16,9 +15,9 @@ module _ {V : Type 0} (engine : Engine V) (s : ℕ) where
   -- a good entry is passed, a stale one has the job undone; with none left the job is committed
   abbrev pub check_next : ℕ → Option Entry → Reply V
   check_next i (Option.Some x) =
-      cond (good engine s x) (moves engine s (in_state (SlotState.Checking (i + 1)) (own engine s))
-      (Answer.Passed x.lock))
-      (moves engine s (in_state SlotState.Undoing (own engine s)) (Answer.Stale x.lock))
+      if good engine s x
+      then moves engine s (in_state (SlotState.Checking (i + 1)) (own engine s)) (Answer.Passed x.lock)
+      else moves engine s (in_state SlotState.Undoing (own engine s)) (Answer.Stale x.lock)
   check_next i Option.None =
       moves engine s (in_state (SlotState.Unlocking 0 Outcome.Committed) (own engine s)) Answer.Committed
 

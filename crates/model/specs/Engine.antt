@@ -10,7 +10,8 @@
 --   good e s x          the entry x of slot s is good
 --   first_stale e s xs  the lock of the first entry that is not
 --   unfit p n m         the refusal of parts that make no engine, of n cells and m undo cells
-use Rattle.std.specs.Prelude.{ℕ, ◌-◌, ◌/◌, ◌%◌, Bool, false, cond, ◌&&◌, ◌||◌, List, [], ◌∷◌, Option, ◌==◌, nat_lt}
+use Rattle.std.specs.Prelude.{ℕ, ◌-◌, ◌/◌, ◌%◌, Bool, ◌&&◌, ◌||◌, List, [], Option, if◌then◌else◌, ◌==◌, nat_lt, find, not, option_map}
+use Rattle.std.specs.List.{list_any}
 use Rattle.locks.specs.LockWord.{word_of}
 use Rattle.locks.specs.declared.lock_word.Lock.{Lock}
 use Rattle.model.specs.declared.slot_state.SlotState.{SlotState}
@@ -58,7 +59,7 @@ engine_of cells undo words slots = record { cells = cells; undo = undo; words = 
 
 -- the function f, but with the value a at k
 abbrev pub updated : {A : Type 0} → (ℕ → A) → ℕ → A → ℕ → A
-updated f k a q = cond (q == k) a (f q)
+updated f k a q = if q == k then a else f q
 
 -- a new engine: all locks free at version 0, which is the word 4, and all slots free
 abbrev pub fresh : {V : Type 0} → List V → List V → Engine V
@@ -66,17 +67,15 @@ fresh cells undo = engine_of cells undo (λ _. word_of (Lock.Free 0)) (λ _. slo
 
 -- the lock that has this word
 abbrev pub read_word : ℕ → Lock
-read_word word = cond (word % 8 == 4) (Lock.Free (word / 8)) (Lock.Held (word / 8 - 1))
+read_word word = if word % 8 == 4 then Lock.Free (word / 8) else Lock.Held (word / 8 - 1)
 
 -- the list has an entry of this lock
 abbrev pub has_lock : List Entry → ℕ → Bool
-has_lock [] l = false
-has_lock (e ∷ rest) l = e.lock == l || has_lock rest l
+has_lock entries l = list_any (λ e. e.lock == l) entries
 
 -- the list has this very entry
 abbrev pub has_entry : List Entry → Entry → Bool
-has_entry [] x = false
-has_entry (e ∷ rest) x = (e.lock == x.lock && e.version == x.version) || has_entry rest x
+has_entry entries x = list_any (λ e. e.lock == x.lock && e.version == x.version) entries
 
 module _ {V : Type 0} (engine : Engine V) (s : ℕ) where
   -- the lock's word says that the slot holds it
@@ -90,8 +89,7 @@ module _ {V : Type 0} (engine : Engine V) (s : ℕ) where
 
   -- the lock of the first entry that is stale, which is to say not good
   abbrev pub first_stale : List Entry → Option ℕ
-  first_stale [] = Option.None
-  first_stale (x ∷ rest) = cond (good x) (first_stale rest) (Option.Some x.lock)
+  first_stale entries = option_map (λ x. x.lock) (find (λ x. not (good x)) entries)
 
 -- not from 1 to this
 abbrev pub outside : ℕ → ℕ → Bool
@@ -100,8 +98,8 @@ outside most n = nat_lt n 1 || nat_lt most n
 -- the first of the parts that makes no engine, of so many cells and undo cells
 abbrev pub unfit : Parts → ℕ → ℕ → Option EngineFault
 unfit parts cells undo =
-    cond (nat_lt most_cells cells) (Option.Some (EngineFault.MemoryTooLarge cells))
-    (cond (nat_lt undo least_undo) (Option.Some (EngineFault.UndoTooSmall undo))
-    (cond (outside most_locks parts.locks) (Option.Some (EngineFault.LocksOutOfRange parts.locks))
-    (cond (outside last_limit parts.limit)
-    (Option.Some (EngineFault.LimitOutOfRange parts.limit)) Option.None)))
+    if nat_lt most_cells cells then Option.Some (EngineFault.MemoryTooLarge cells)
+    else if nat_lt undo least_undo then Option.Some (EngineFault.UndoTooSmall undo)
+    else if outside most_locks parts.locks then Option.Some (EngineFault.LocksOutOfRange parts.locks)
+    else if outside last_limit parts.limit then Option.Some (EngineFault.LimitOutOfRange parts.limit)
+    else Option.None

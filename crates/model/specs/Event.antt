@@ -43,48 +43,32 @@ pub record Event (V : Type 0) : Type 0 where
 module _ {V : Type 0} where
   -- the place of a step, 0 where it has none
   abbrev pub place_of : Step V → ℕ
-  place_of Step.Begin = 0
   place_of (Step.Note p) = p
   place_of (Step.Load p) = p
   place_of (Step.Acquire p) = p
   place_of (Step.Store p x) = p
-  place_of Step.Check = 0
-  place_of Step.Commit = 0
-  place_of Step.Advance = 0
-  place_of Step.Abort = 0
+  place_of step = 0
 
   -- what a step that answers stored did
   abbrev pub store_of : Step V → Deed V
-  store_of Step.Begin = nothing
-  store_of (Step.Note p) = nothing
-  store_of (Step.Load p) = nothing
-  store_of (Step.Acquire p) = nothing
   store_of (Step.Store p x) = does (stores p x)
-  store_of Step.Check = nothing
-  store_of Step.Commit = nothing
-  store_of Step.Advance = nothing
-  store_of Step.Abort = nothing
+  store_of step = nothing
 
   module _ (guard : ℕ → ℕ) where
     -- what a granted step did
     abbrev pub deed : Step V → Answer V → Deed V
     deed step Answer.Begun = begins
-    deed step Answer.Own = nothing
-    deed step Answer.Known = nothing
     deed step (Answer.Noted v) = notes
     deed step (Answer.Value x) = does (loads (place_of step) x)
     deed step (Answer.Acquired v) = takes (guard (place_of step))
     deed step Answer.Stored = store_of step
     deed step Answer.Good = validates
-    deed step (Answer.Stale l) = nothing
     deed step Answer.Checking = asks
     deed step Answer.Undoing = quits
-    deed step (Answer.Passed l) = nothing
     deed step Answer.Committed = commits
-    deed step (Answer.Restored p) = nothing
-    deed step Answer.Unlocking = nothing
     deed step (Answer.Released l) = frees l
     deed step (Answer.Ended outcome) = ends
+    deed step answer = nothing
 
     -- the event of a step of slot s with its answer
     abbrev pub answered : ℕ → Step V → Result (Answer V) EngineFault → Event V

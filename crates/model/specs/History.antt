@@ -3,8 +3,9 @@
 --   line h       jobs in the order in which their commits were granted
 --   in_turn l    the operations of the committed jobs, one job after the other
 --   held h l     the lock l is held
-use Rattle.std.specs.Prelude.{ℕ, Bool, true, false, cond, not, ◌&&◌, ◌||◌, List, [], ◌∷◌, ◌++◌, ◌==◌}
-use Rattle.model.specs.Event.{Op, Deed, begins, notes, does, takes, validates, asks, quits, commits, frees, ends, nothing, History}
+use Rattle.std.specs.Prelude.{ℕ, Bool, true, false, not, ◌&&◌, ◌||◌, List, [], ◌∷◌, ◌++◌, map, filter, if◌then◌else◌, ◌==◌}
+use Rattle.std.specs.List.{flat_map}
+use Rattle.model.specs.Event.{Op, Deed, takes, asks, commits, frees, ends, History}
 use Rattle.model.specs.Job.{job}
 
 -- a job in the line
@@ -20,28 +21,18 @@ module _ {V : Type 0} where
 
   -- the jobs of the slot are committed
   abbrev pub marked : ℕ → List (Turn V) → List (Turn V)
-  marked s [] = []
-  marked s (t ∷ line) =
-      cond (waits s t) (record { slot = t.slot; ops = t.ops; committed = true }) t ∷ marked s line
+  marked s line = map (λ t. if waits s t then record t { committed = true } else t) line
 
   -- a job of the slot that is not committed leaves the line
   abbrev pub without : ℕ → List (Turn V) → List (Turn V)
-  without s [] = []
-  without s (t ∷ line) = cond (waits s t) (without s line) (t ∷ without s line)
+  without s line = filter (λ t. not (waits s t)) line
 
   -- the line after a deed of slot s, whose job has these operations
   abbrev pub line_after : Deed V → ℕ → List (Op V) → List (Turn V) → List (Turn V)
   line_after asks s ops line = line ++ (record { slot = s; ops = ops; committed = false } ∷ [])
   line_after commits s ops line = marked s line
   line_after ends s ops line = without s line
-  line_after begins s ops line = line
-  line_after notes s ops line = line
-  line_after (does op) s ops line = line
-  line_after (takes l) s ops line = line
-  line_after validates s ops line = line
-  line_after quits s ops line = line
-  line_after (frees l) s ops line = line
-  line_after nothing s ops line = line
+  line_after deed s ops line = line
 
   -- jobs in the order in which their commits were granted
   abbrev pub line : History V → List (Turn V)
@@ -50,22 +41,13 @@ module _ {V : Type 0} where
 
   -- the operations of the committed jobs, one job after the other
   abbrev pub in_turn : List (Turn V) → List (Op V)
-  in_turn [] = []
-  in_turn (t ∷ line) = cond t.committed t.ops [] ++ in_turn line
+  in_turn line = flat_map (λ t. if t.committed then t.ops else []) line
 
   -- the locks held after a deed
   abbrev pub held_after : Deed V → Bool → ℕ → Bool
   held_after (takes k) was l = k == l || was
   held_after (frees k) was l = not (k == l) && was
-  held_after begins was l = was
-  held_after notes was l = was
-  held_after (does op) was l = was
-  held_after validates was l = was
-  held_after asks was l = was
-  held_after quits was l = was
-  held_after commits was l = was
-  held_after ends was l = was
-  held_after nothing was l = was
+  held_after deed was l = was
 
   -- a lock is held from the acquire that took it to the advance that released it
   abbrev pub held : History V → ℕ → Bool

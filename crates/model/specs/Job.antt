@@ -2,8 +2,8 @@
 --   Closing      how many advances a closing job is allowed, and how many it has made
 --   Job          its operations, its work, and how it closes
 --   job s h      the job that slot s has, or had last
-use Rattle.std.specs.Prelude.{ℕ, ◌+◌, Bool, true, false, cond, ◌&&◌, List, [], ◌∷◌, ◌++◌, Option, ◌==◌}
-use Rattle.model.specs.Event.{Op, loads, stores, Deed, begins, notes, does, takes, validates, asks, quits, commits, frees, ends, nothing, History}
+use Rattle.std.specs.Prelude.{ℕ, ◌+◌, Bool, true, false, ◌&&◌, List, [], ◌∷◌, ◌++◌, Option, if◌then◌else◌, ◌==◌}
+use Rattle.model.specs.Event.{Op, loads, stores, Deed, begins, notes, does, takes, asks, quits, ends, History}
 
 -- from its granted commit or abort to its end a job is closing
 pub record Closing : Type 0 where
@@ -23,7 +23,7 @@ pub record Job (V : Type 0) : Type 0 where
 -- an advance that a closing job has made
 abbrev pub one_more : Option Closing → Option Closing
 one_more Option.None = Option.None
-one_more (Option.Some c) = Option.Some (record { allowed = c.allowed; made = c.made + 1 })
+one_more (Option.Some c) = Option.Some (record c { made = c.made + 1 })
 
 module _ {V : Type 0} where
   -- as a slot begins
@@ -32,11 +32,11 @@ module _ {V : Type 0} where
 
   -- one more piece of work
   abbrev pub worked : Job V → Job V
-  worked j = record { ops = j.ops; work = j.work + 1; closing = j.closing }
+  worked j = record j { work = j.work + 1 }
 
   -- the job closes so, or no longer
   abbrev pub closes : Job V → Option Closing → Job V
-  closes j closing = record { ops = j.ops; work = j.work; closing = closing }
+  closes j closing = record j { closing = closing }
 
   -- a store is work, a load is not
   abbrev pub effort : Op V → ℕ
@@ -47,15 +47,12 @@ module _ {V : Type 0} where
   abbrev pub job_after : Deed V → Job V → Job V
   job_after begins j = no_job
   job_after notes j = worked j
-  job_after (does op) j = record { ops = j.ops ++ (op ∷ []); work = j.work + effort op; closing = j.closing }
+  job_after (does op) j = record j { ops = j.ops ++ (op ∷ []); work = j.work + effort op }
   job_after (takes l) j = worked j
   job_after asks j = closes j (Option.Some (record { allowed = j.work + 2; made = 0 }))
   job_after quits j = closes j (Option.Some (record { allowed = j.work + 2; made = 0 }))
   job_after ends j = closes j Option.None
-  job_after validates j = j
-  job_after commits j = j
-  job_after (frees l) j = j
-  job_after nothing j = j
+  job_after deed j = j
 
   -- a granted advance counts, while the job is closing
   abbrev pub counted : Bool → Job V → Job V
@@ -66,4 +63,4 @@ module _ {V : Type 0} where
   abbrev pub job : ℕ → History V → Job V
   job s [] = no_job
   job s (e ∷ h) =
-      cond (e.slot == s) (job_after e.deed (counted (e.advance && e.granted) (job s h))) (job s h)
+      if e.slot == s then job_after e.deed (counted (e.advance && e.granted) (job s h)) else job s h

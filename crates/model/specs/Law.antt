@@ -7,8 +7,7 @@
 --   EveryRunLawful V           every run of the plain engine keeps it
 --   WordsInRange V             versions stay within the limit, after every run
 --   RefusalsChangeNothing V    a call that the plain engine refuses leaves it as it was
-use Rattle.std.specs.Prelude.{◌≡◌, ℕ, ◌<◌, ◌≤◌, true, false, List, [], ◌∷◌, ◌++◌, Option, Result, slice_set}
-use Rattle.std.specs.List.{slice_get}
+use Rattle.std.specs.Prelude.{◌≡◌, ℕ, ◌<◌, ◌≤◌, true, false, List, [], ◌∷◌, ◌++◌, Option, Result, slice_get, slice_set}
 use Rattle.locks.specs.LockWord.{word_of}
 use Rattle.locks.specs.declared.lock_word.Lock.{Lock}
 use Rattle.model.specs.declared.step.Call.{Call}

@@ -6,8 +6,7 @@
 --   Done                    a call with its answer
 --   run_by f e calls        each call at the engine that the one before it left, where f is the step
 --   run p e calls           a run of the plain engine
-use Rattle.std.specs.Prelude.{ℕ, Bool, true, false, cond, List, [], ◌∷◌, length, Option, Result, nat_lt}
-use Rattle.std.specs.List.{slice_get}
+use Rattle.std.specs.Prelude.{ℕ, Bool, true, false, List, [], ◌∷◌, length, Option, Result, if◌then◌else◌, nat_lt, slice_get}
 use Rattle.model.specs.declared.slot_state.SlotState.{SlotState}
 use Rattle.model.specs.declared.step.Step.{Step}
 use Rattle.model.specs.declared.step.Call.{Call}
@@ -25,15 +24,8 @@ verdict (Option.Some l) = Answer.Stale l
 
 -- the step is advance
 abbrev pub is_advance : {V : Type 0} → Step V → Bool
-is_advance Step.Begin = false
-is_advance (Step.Note p) = false
-is_advance (Step.Load p) = false
-is_advance (Step.Acquire p) = false
-is_advance (Step.Store p x) = false
-is_advance Step.Check = false
-is_advance Step.Commit = false
 is_advance Step.Advance = true
-is_advance Step.Abort = false
+is_advance step = false
 
 module _ {V : Type 0} (engine : Engine V) (s : ℕ) where
   -- the state does not grant the step
@@ -43,18 +35,11 @@ module _ {V : Type 0} (engine : Engine V) (s : ℕ) where
   -- a free slot begins
   abbrev pub free_row : Step V → Reply V
   free_row Step.Begin = moves engine s (slot_of SlotState.Open [] [] []) Answer.Begun
-  free_row (Step.Note p) = wrong
-  free_row (Step.Load p) = wrong
-  free_row (Step.Acquire p) = wrong
-  free_row (Step.Store p x) = wrong
-  free_row Step.Check = wrong
-  free_row Step.Commit = wrong
-  free_row Step.Advance = wrong
-  free_row Step.Abort = wrong
+  free_row step = wrong
 
   -- a closing slot advances
   abbrev pub closing_row : Reply V → Step V → Reply V
-  closing_row next called = cond (is_advance called) next wrong
+  closing_row next called = if is_advance called then next else wrong
 
 module _ {V : Type 0} (parts : Parts) (engine : Engine V) (s : ℕ) where
   -- an open slot takes all steps but begin and advance
@@ -88,9 +73,8 @@ module _ {V : Type 0} (parts : Parts) (engine : Engine V) where
   abbrev pub step : Call V → Reply V
   step call =
       where_fit (unfit parts (length engine.cells) (length engine.undo))
-      (cond (nat_lt call.slot slot_count)
-      (row parts engine call.slot (engine.slots call.slot).state call.step)
-      (refused engine (EngineFault.NoSlot call.slot)))
+      (if nat_lt call.slot slot_count then row parts engine call.slot (engine.slots call.slot).state call.step
+      else refused engine (EngineFault.NoSlot call.slot))
 
 -- a call with its answer
 pub record Done (V : Type 0) : Type 0 where

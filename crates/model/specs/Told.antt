@@ -1,9 +1,9 @@
 -- What the engine tells its caller: refusals as number, detail and layer; answers as a listing prints them, a word
--- with a number, a value or nothing behind it. Assumes nothing.
+-- and behind it a number or a value, where there is one. Assumes nothing.
 --   state_number st    the number of a slot's state
 --   told f             number, detail and layer of the fault f
---   shown a            the word of the answer a, and what stands behind it
-use Rattle.std.specs.Prelude.{ℕ, List, codes}
+--   shown a            the word of the answer a, and what stands behind it, if anything
+use Rattle.std.specs.Prelude.{ℕ, List, Option, codes}
 use Rattle.refusal.specs.declared.refusal.Refusal.{Refusal}
 use Rattle.refusal.specs.declared.layer.Layer.{Layer}
 use Rattle.memory.specs.Fault as memory
@@ -43,27 +43,23 @@ told EngineFault.UndoLogFull = told_here 28 most_records
 told (EngineFault.LastVersion lock) = told_here 29 lock
 told (EngineFault.HeldByOther slot) = told_here 31 slot
 
--- the words of a job that has ended
-abbrev pub ended_word : Outcome → List ℕ
-ended_word Outcome.Committed = codes "ended committed"
-ended_word Outcome.Undone = codes "ended undone"
-
--- the word of each answer, and what stands behind it
-abbrev pub shown : {V : Type 0} → Answer V → List ℕ × Detail V
-shown Answer.Begun = (codes "begun", Detail.Nothing)
-shown Answer.Own = (codes "own", Detail.Nothing)
-shown Answer.Known = (codes "known", Detail.Nothing)
-shown (Answer.Noted version) = (codes "noted", Detail.Number version)
-shown (Answer.Value value) = (codes "value", Detail.Value value)
-shown (Answer.Acquired version) = (codes "acquired", Detail.Number version)
-shown Answer.Stored = (codes "stored", Detail.Nothing)
-shown Answer.Good = (codes "good", Detail.Nothing)
-shown (Answer.Stale lock) = (codes "stale", Detail.Number lock)
-shown Answer.Checking = (codes "checking", Detail.Nothing)
-shown Answer.Undoing = (codes "undoing", Detail.Nothing)
-shown (Answer.Passed lock) = (codes "passed", Detail.Number lock)
-shown Answer.Committed = (codes "committed", Detail.Nothing)
-shown (Answer.Restored place) = (codes "restored", Detail.Number place)
-shown Answer.Unlocking = (codes "unlocking", Detail.Nothing)
-shown (Answer.Released lock) = (codes "released", Detail.Number lock)
-shown (Answer.Ended outcome) = (ended_word outcome, Detail.Nothing)
+-- the word of each answer, and what stands behind it, if anything
+abbrev pub shown : {V : Type 0} → Answer V → List ℕ × Option (Detail V)
+shown Answer.Begun = (codes "begun", Option.None)
+shown Answer.Own = (codes "own", Option.None)
+shown Answer.Known = (codes "known", Option.None)
+shown (Answer.Noted version) = (codes "noted", Option.Some (Detail.Number version))
+shown (Answer.Value value) = (codes "value", Option.Some (Detail.Value value))
+shown (Answer.Acquired version) = (codes "acquired", Option.Some (Detail.Number version))
+shown Answer.Stored = (codes "stored", Option.None)
+shown Answer.Good = (codes "good", Option.None)
+shown (Answer.Stale lock) = (codes "stale", Option.Some (Detail.Number lock))
+shown Answer.Checking = (codes "checking", Option.None)
+shown Answer.Undoing = (codes "undoing", Option.None)
+shown (Answer.Passed lock) = (codes "passed", Option.Some (Detail.Number lock))
+shown Answer.Committed = (codes "committed", Option.None)
+shown (Answer.Restored place) = (codes "restored", Option.Some (Detail.Number place))
+shown Answer.Unlocking = (codes "unlocking", Option.None)
+shown (Answer.Released lock) = (codes "released", Option.Some (Detail.Number lock))
+shown (Answer.Ended Outcome.Committed) = (codes "ended committed", Option.None)
+shown (Answer.Ended Outcome.Undone) = (codes "ended undone", Option.None)

@@ -1,6 +1,6 @@
 // What a granted step answers.
 ghost use Rattle.std.specs.Prelude.{◌≡◌};
-ghost use Rattle.model.specs.Told.{ended_word, shown};
+ghost use Rattle.model.specs.Told.{shown};
 
 use crate::outcome::Outcome;
 
@@ -34,16 +34,16 @@ pub enum Answer<V> {
     Ended(Outcome),
 }
 
-// What a listing prints behind the word of an answer.
+// What a listing prints behind the word of an answer that has more to tell.
 #[derive(Clone, Copy, PartialEq, Eq, Debug)]
 pub enum Detail<V> {
-    Nothing,
     Number(u32),
     Value(V),
 }
 
 impl<V: Copy> Answer<V> {
-    // The answer's word, as a listing prints it.
+    // The answer's word, as a listing prints it. A text and no `Display`, since a line is laid out without a heap in a
+    // buffer of fixed size.
     pub fn word(self) -> &'static str
         ensures { result.now ≡ (shown self).0 }
     {
@@ -64,32 +64,23 @@ impl<V: Copy> Answer<V> {
             Answer::Restored(_) => "restored",
             Answer::Unlocking => "unlocking",
             Answer::Released(_) => "released",
-            Answer::Ended(outcome) => ended(outcome),
+            Answer::Ended(Outcome::Committed) => "ended committed",
+            Answer::Ended(Outcome::Undone) => "ended undone",
         }
     }
 
     // The number or value behind the word, where the answer has one.
-    pub fn detail(self) -> Detail<V>
+    pub fn detail(self) -> Option<Detail<V>>
         ensures { result ≡ (shown self).1 }
     {
         match self {
-            Answer::Noted(version) | Answer::Acquired(version) => Detail::Number(version),
-            Answer::Stale(lock) | Answer::Passed(lock) | Answer::Released(lock) => Detail::Number(
-                lock,
+            Answer::Noted(version) | Answer::Acquired(version) => Some(Detail::Number(version)),
+            Answer::Stale(lock) | Answer::Passed(lock) | Answer::Released(lock) => Some(
+                Detail::Number(lock),
             ),
-            Answer::Restored(place) => Detail::Number(place),
-            Answer::Value(value) => Detail::Value(value),
-            _ => Detail::Nothing,
+            Answer::Restored(place) => Some(Detail::Number(place)),
+            Answer::Value(value) => Some(Detail::Value(value)),
+            _ => None,
         }
-    }
-}
-
-// The words of a job that has ended.
-fn ended(outcome: Outcome) -> &'static str
-    ensures { result.now ≡ ended_word outcome }
-{
-    match outcome {
-        Outcome::Committed => "ended committed",
-        Outcome::Undone => "ended undone",
     }
 }

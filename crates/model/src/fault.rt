@@ -1,7 +1,7 @@
 // Why the engine refuses a step.
 ghost use Rattle.std.specs.Prelude.{◌≡◌};
 ghost use Rattle.model.specs.declared.fault.EngineFault.TheVariants.{Memory};
-ghost use Rattle.model.specs.Told.{told, told_here};
+ghost use Rattle.model.specs.Told.{told};
 
 use crate::slot_state::SlotState;
 use memory::fault::MemoryFault;
@@ -37,45 +37,40 @@ pub enum EngineFault {
     HeldByOther(u32),
 }
 
-impl EngineFault {
-    // Number, detail and layer.
-    pub fn refusal(self) -> Refusal
-        ensures { result ≡ told self }
-    {
-        match self {
-            EngineFault::MemoryTooLarge(count) => engine_refusal(11, count),
-            EngineFault::UndoTooSmall(count) => engine_refusal(12, count),
-            EngineFault::LocksOutOfRange(count) => engine_refusal(13, count),
-            EngineFault::LimitOutOfRange(limit) => engine_refusal(14, limit),
-            EngineFault::NoSlot(slot) => engine_refusal(21, slot),
-            EngineFault::WrongState(state) => engine_refusal(22, state.number() as u32),
-            EngineFault::Memory(fault) => fault.refusal(),
-            EngineFault::NotNoted(lock) => engine_refusal(24, lock),
-            EngineFault::NotHeld(lock) => engine_refusal(25, lock),
-            EngineFault::ReadSetFull => engine_refusal(26, 64),
-            EngineFault::HeldListFull => engine_refusal(27, 32),
-            EngineFault::UndoLogFull => engine_refusal(28, 64),
-            EngineFault::LastVersion(lock) => engine_refusal(29, lock),
-            EngineFault::HeldByOther(slot) => engine_refusal(31, slot),
+// Number, detail and layer.
+impl From<EngineFault> for Refusal {
+    ghost from_gives = { λ fault r. r ≡ told fault };
+
+    fn from(fault: EngineFault) -> Refusal {
+        let (number, detail) = match fault {
+            EngineFault::MemoryTooLarge(count) => (11, count),
+            EngineFault::UndoTooSmall(count) => (12, count),
+            EngineFault::LocksOutOfRange(count) => (13, count),
+            EngineFault::LimitOutOfRange(limit) => (14, limit),
+            EngineFault::NoSlot(slot) => (21, slot),
+            EngineFault::WrongState(state) => (22, u8::from(state).into()),
+            EngineFault::Memory(memory) => return memory.into(),
+            EngineFault::NotNoted(lock) => (24, lock),
+            EngineFault::NotHeld(lock) => (25, lock),
+            EngineFault::ReadSetFull => (26, 64),
+            EngineFault::HeldListFull => (27, 32),
+            EngineFault::UndoLogFull => (28, 64),
+            EngineFault::LastVersion(lock) => (29, lock),
+            EngineFault::HeldByOther(slot) => (31, slot),
+        };
+        Refusal {
+            number,
+            detail: u64::from(detail),
+            layer: Layer::Engine,
         }
     }
 }
 
+// By hand: a derived `From` states nothing of the fault that it makes.
 impl From<MemoryFault> for EngineFault {
     ghost from_gives = { λ cause r. r ≡ Memory cause };
 
     fn from(cause: MemoryFault) -> EngineFault {
         EngineFault::Memory(cause)
-    }
-}
-
-// A refusal that begins in the engine.
-fn engine_refusal(number: u8, detail: u32) -> Refusal
-    ensures { result ≡ told_here number detail }
-{
-    Refusal {
-        number,
-        detail: detail as u64,
-        layer: Layer::Engine,
     }
 }

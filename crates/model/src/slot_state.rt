@@ -21,12 +21,12 @@ pub enum SlotState {
     Undoing,
 }
 
-impl SlotState {
-    // The state's number: 0 to 4.
-    pub fn number(self) -> u8
-        ensures { result ≡ state_number self }
-    {
-        match self {
+// The state's number: 0 to 4.
+impl From<SlotState> for u8 {
+    ghost from_gives = { λ state n. n ≡ state_number state };
+
+    fn from(state: SlotState) -> u8 {
+        match state {
             SlotState::Free => 0,
             SlotState::Open => 1,
             SlotState::Checking(_) => 2,

@@ -1,16 +1,16 @@
 // Quotes a choir's orders from a price book, and prints each action as it does it.
 #![tactic(auto)]
 
-use anyhow::anyhow;
+use anyhow::Context;
 use estimate::book::promise;
-use estimate::fault::OrderFault;
 use estimate::order::{Order, Terms};
 use estimate::percent::Percent;
 use estimate::quote::Quote;
 use memory::flat::Flat;
 use memory::joined::Joined;
 use memory::memory::Memory;
-use std::io;
+use refusal::refusal::Refusal;
+use std::{fmt, io};
 use value::kind::Kind;
 use value::stock_record::StockRecord;
 
@@ -20,121 +20,109 @@ fn main(rt: HostRuntime) -> anyhow::Result<()> {
 
 // Two shelves make the book. A choir's order is quoted and its paper promised; an order too large for
 // the stock and one for a paper that the book does not have are refused, and leave the book as it was.
-fn run(rt: &HostRuntime) -> anyhow::Result<()> {
+fn run(rt: &impl Print) -> anyhow::Result<()> {
     let mut music = [paper(2_000, 650, 230)?, paper(4_500, 1_200, 310)?];
     let mut covers = [paper(800, 0, 940)?, paper(600, 450, 1_275)?];
     println!(rt; "Opening the price book: a shelf of music paper, a shelf of covers behind it.")?;
-    let mut book = Joined {
+    let book = Joined {
         first: Flat { cells: &mut music },
         second: Flat { cells: &mut covers },
     };
-    list(rt, &book)?;
+    let mut counter = Counter { rt, book };
+    counter.list()?;
     let terms = house_terms()?;
-    take_order(rt, &mut book, terms, order(60, 22, 1))?;
-    take_order(rt, &mut book, terms, order(600, 22, 1))?;
-    take_order(rt, &mut book, terms, order(60, 4, 4))?;
+    counter.take_order(order(60, 22, 1, terms))?;
+    counter.take_order(order(600, 22, 1, terms))?;
+    counter.take_order(order(60, 4, 4, terms))?;
     println!(rt; "Closing the price book.")?;
-    list(rt, &book)?;
+    counter.list()?;
     Ok(())
 }
 
 // A record of the example.
 fn paper(on_hand: u64, promised: u64, price: u64) -> anyhow::Result<StockRecord> {
-    match StockRecord::build(&[on_hand, promised, price]) {
-        Ok(paper) => Ok(paper),
-        Err(_) => Err(anyhow!("the example promises more paper than it has")),
-    }
+    StockRecord::build(&[on_hand, promised, price])
+        .ok()
+        .context("the example promises more paper than it has")
 }
 
 // The terms of the example: 5 in 100 sheets spoilt, 0.45 cents to fold a sheet, 8 in 100 off from 50
 // copies on.
 fn house_terms() -> anyhow::Result<Terms> {
-    let wastage = percent(5)?;
-    let discount = percent(8)?;
     Ok(Terms {
-        wastage,
+        wastage: percent(5)?,
         fold: 45,
-        discount,
+        discount: percent(8)?,
         large: 50,
     })
 }
 
 fn percent(value: u8) -> anyhow::Result<Percent> {
-    match Percent::new(value) {
-        Some(percent) => Ok(percent),
-        None => Err(anyhow!("a percentage of the example is over 100")),
-    }
+    Percent::new(value).context("a percentage of the example is over 100")
 }
 
-fn order(copies: u16, pages: u16, paper: u32) -> Order {
+fn order(copies: u16, pages: u16, paper: u32, terms: Terms) -> Order {
     Order {
         copies,
         pages,
         paper,
+        terms,
     }
 }
 
-// Prints every paper of the book.
-fn list<M: Memory<Value = StockRecord>>(rt: &HostRuntime, book: &M) -> io::Result<()> {
-    for place in 0..book.count() {
-        print_paper(rt, "", book, place)?;
+// The shop's counter: the book lies open there, and what is done with it is printed.
+#[derive(Drop)]
+struct Counter<'a, P, M> {
+    rt: &'a P,
+    book: M,
+}
+
+impl<P: Print, M: Memory<Value = StockRecord>> Counter<'_, P, M> {
+    // Prints every paper of the book.
+    fn list(&self) -> io::Result<()> {
+        (0..self.book.count()).try_for_each(|place| self.print_paper("", place))
     }
-    Ok(())
-}
 
-// Prints the paper at a place, where the book has one.
-fn print_paper<M: Memory<Value = StockRecord>>(
-    rt: &HostRuntime,
-    action: &str,
-    book: &M,
-    place: u32,
-) -> io::Result<()> {
-    let Ok(paper) = book.load(place) else {
-        return Ok(());
-    };
-    let price = paper.price();
-    print!(rt;
-        "  {action}paper {place}: {} sheets on hand, ",
-        paper.on_hand()
-    )?;
-    println!(rt;
-        "{} promised, {}.{:02} cents a sheet",
-        paper.promised(),
-        price / 100,
-        price % 100
-    )
-}
+    // Prints the paper at a place, where the book has one.
+    fn print_paper(&self, action: &str, place: u32) -> io::Result<()> {
+        let Ok(paper) = self.book.load(place) else {
+            return Ok(());
+        };
+        println!(self.rt; "  {action}paper {place}: {paper}")
+    }
 
-// Takes an order and prints what is done for it.
-fn take_order<M: Memory<Value = StockRecord>>(
-    rt: &HostRuntime,
-    book: &mut M,
-    terms: Terms,
-    order: Order,
-) -> io::Result<()> {
-    print!(rt;
-        "A choir orders {} copies of a score of {} pages, ",
-        order.copies, order.pages
-    )?;
-    println!(rt; "on paper {}.", order.paper)?;
-    print_paper(rt, "read      ", book, order.paper)?;
-    match promise(book, order, terms) {
-        Ok(quote) => {
-            print_quote(rt, quote)?;
-            print_paper(rt, "stored    ", book, order.paper)
+    // Takes an order and prints what is done for it.
+    fn take_order(&mut self, order: Order) -> io::Result<()> {
+        let Order {
+            copies,
+            pages,
+            paper,
+            ..
+        } = order;
+        println!(self.rt;
+            "A choir orders {copies} copies of a score of {pages} pages, on paper {paper}."
+        )?;
+        self.print_paper("read      ", paper)?;
+        match promise(&mut self.book, order) {
+            Ok(quote) => {
+                print_quote(self.rt, quote)?;
+                self.print_paper("stored    ", paper)
+            }
+            Err(fault) => {
+                let refusal = Refusal::from(fault);
+                println!(self.rt; "  refused   {refusal}: {fault}; nothing changed")
+            }
         }
-        Err(fault) => print_fault(rt, fault),
     }
 }
 
-fn print_quote(rt: &HostRuntime, quote: Quote) -> io::Result<()> {
-    println!(rt;
-        "  sheets    {} needed, {} more for wastage",
-        quote.needed, quote.spoilt
-    )?;
-    print_price(rt, "paper    ", quote.paper)?;
-    print_price(rt, "folding  ", quote.folding)?;
-    print_price(rt, "discount ", quote.discount)?;
+// Five lines in the layout of this program, and so no `Display` of a quote.
+fn print_quote(rt: &impl Print, quote: Quote) -> io::Result<()> {
+    let Quote { needed, spoilt, .. } = quote;
+    println!(rt; "  sheets    {needed} needed, {spoilt} more for wastage")?;
+    println!(rt; "  paper     {}", Dollars(quote.paper))?;
+    println!(rt; "  folding   {}", Dollars(quote.folding))?;
+    println!(rt; "  discount  {}", Dollars(quote.discount))?;
     println!(rt;
         "  to pay    {:>5}.{:02}   dollars",
         quote.cents / 100,
@@ -142,26 +130,13 @@ fn print_quote(rt: &HostRuntime, quote: Quote) -> io::Result<()> {
     )
 }
 
-// Prices are in hundredths of a cent.
-fn print_price(rt: &HostRuntime, what: &str, price: u64) -> io::Result<()> {
-    println!(rt;
-        "  {what} {:>5}.{:04} dollars",
-        price / 10_000,
-        price % 10_000
-    )
-}
+// A price in hundredths of a cent, printed in dollars.
+#[derive(Clone, Copy)]
+struct Dollars(u64);
 
-fn print_fault(rt: &HostRuntime, fault: OrderFault) -> io::Result<()> {
-    let reason = match fault {
-        OrderFault::NoPaper(_) => "the book has no such paper",
-        OrderFault::NoStock(_) => "not enough sheets are left to promise",
-    };
-    let refusal = fault.refusal();
-    print!(rt;
-        "  refused   {} {}, layer {}: ",
-        refusal.number,
-        refusal.detail,
-        refusal.layer.number()
-    )?;
-    println!(rt; "{reason}; nothing changed")
+impl fmt::Display for Dollars {
+    fn fmt<W: fmt::Write>(&self, f: &mut fmt::Formatter<W>) -> fmt::Result {
+        let Dollars(price) = *self;
+        write!(f, "{:>5}.{:04} dollars", price / 10_000, price % 10_000)
+    }
 }

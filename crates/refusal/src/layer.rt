@@ -5,22 +5,18 @@ ghost use Rattle.refusal.specs.Layers.{layer_number};
 #[derive(Clone, Copy, PartialEq, Eq, Debug)]
 pub enum Layer {
     // a memory or a kind of value
-    Data,
+    Data = 1,
     // the engine
-    Engine,
+    Engine = 2,
     // the reader of schedules or the writer of listings
-    Text,
+    Text = 3,
 }
 
-impl Layer {
-    // The layer's number: 1, 2 or 3.
-    pub fn number(self) -> u8
-        ensures { result ≡ layer_number self }
-    {
-        match self {
-            Layer::Data => 1,
-            Layer::Engine => 2,
-            Layer::Text => 3,
-        }
+// The layer's number: 1, 2 or 3.
+impl From<Layer> for u8 {
+    ghost from_gives = { λ layer n. n ≡ layer_number layer };
+
+    fn from(layer: Layer) -> u8 {
+        layer as u8
     }
 }

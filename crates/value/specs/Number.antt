@@ -1,7 +1,7 @@
 -- The number: a value of one part of 64 bits. Assumes nothing.
 --   number_parts x   its one part
 --   number_of ps     the number with these parts
-use Rattle.std.specs.Prelude.{ℕ, cond, List, [], ◌∷◌, Some, None, Option, nat_le}
+use Rattle.std.specs.Prelude.{ℕ, if◌then◌else◌, List, [], ◌∷◌, Some, None, Option, nat_le}
 use Rattle.value.specs.Kind.{widest}
 use Rattle.value.specs.declared.number.Number.{Number}
 
@@ -12,5 +12,5 @@ number_parts x = x.amount ∷ []
 -- one part of at most 64 bits makes a number, and nothing else does
 abbrev pub number_of : List ℕ → Option Number
 number_of [] = None
-number_of (a ∷ []) = cond (nat_le a (widest 64)) (Some (record { amount = a })) None
+number_of (a ∷ []) = if nat_le a (widest 64) then Some (record { amount = a }) else None
 number_of (a ∷ b ∷ rest) = None

@@ -2,7 +2,9 @@
 --   stock_parts x                      on hand, promised, price
 --   sound_stock hand promised price    these three make a record
 --   stock_of ps                        the record with these parts
-use Rattle.std.specs.Prelude.{ℕ, Bool, cond, ◌&&◌, List, [], ◌∷◌, Some, None, Option, nat_le}
+--   stock_text x                       how it is printed
+use Rattle.std.specs.Prelude.{ℕ, ◌/◌, ◌%◌, Bool, ◌&&◌, List, [], ◌∷◌, ◌++◌, Some, None, Option, nat_le, codes, if◌then◌else◌}
+use Rattle.std.specs.Fmt.{decimal}
 use Rattle.value.specs.Kind.{widest}
 use Rattle.value.specs.declared.stock_record.StockRecord.{StockRecord}
 
@@ -20,5 +22,14 @@ stock_of [] = None
 stock_of (a ∷ []) = None
 stock_of (a ∷ b ∷ []) = None
 stock_of (a ∷ b ∷ c ∷ []) =
-    cond (sound_stock a b c) (Some (record { on_hand = a; promised = b; price = c })) None
+    if sound_stock a b c then Some (record { on_hand = a; promised = b; price = c }) else None
 stock_of (a ∷ b ∷ c ∷ d ∷ rest) = None
+
+-- in cents, as in `9.40`
+abbrev pub cents_text : ℕ → List ℕ
+cents_text price = decimal (price / 100) ++ codes "." ++ decimal ((price / 10) % 10) ++ decimal (price % 10)
+
+-- as in `800 sheets on hand, 0 promised, 9.40 cents a sheet`
+abbrev pub stock_text : StockRecord → List ℕ
+stock_text x = decimal x.on_hand ++ codes " sheets on hand, " ++ decimal x.promised ++ codes " promised, "
+    ++ cents_text x.price ++ codes " cents a sheet"

@@ -11,17 +11,16 @@ pub enum ValueFault {
     NoValue(u64),
 }
 
-impl ValueFault {
-    // Number 6, the number of parts given, layer 1.
-    pub fn refusal(self) -> Refusal
-        ensures { result ≡ told self }
-    {
-        match self {
-            ValueFault::NoValue(given) => Refusal {
-                number: 6,
-                detail: given,
-                layer: Layer::Data,
-            },
+// Number 6, the number of parts given, layer 1.
+impl From<ValueFault> for Refusal {
+    ghost from_gives = { λ fault r. r ≡ told fault };
+
+    fn from(fault: ValueFault) -> Refusal {
+        let ValueFault::NoValue(given) = fault;
+        Refusal {
+            number: 6,
+            detail: given,
+            layer: Layer::Data,
         }
     }
 }

@@ -1,16 +1,15 @@
 // What a kind of value is: how many parts its values have, what they are, and which parts make a value.
-ghost use Rattle.std.specs.Prelude.{◌≡◌, ℕ, ◌^◌, ◌<◌, ◌≤◌, List, length, Some, None, Option, MatchOption};
-ghost use Rattle.std.specs.List.{slice_get, AllByRecursion};
+ghost use Rattle.std.specs.Prelude.{◌≡◌, ℕ, ◌^◌, ◌<◌, ◌≤◌, List, length, slice_get, All, Some, None, Option, MatchOption};
 ghost use Rattle.value.specs.Kind.{built};
 
 use crate::fault::ValueFault;
 
 pub trait Kind: Copy {
     // how many parts a value has
-    ghost size: { ℕ };
+    ghost SIZE: { ℕ };
 
-    // every part is at most this
-    ghost limit: { ℕ };
+    // the largest number that a part may be
+    ghost LIMIT: { ℕ };
 
     // the parts of a value
     ghost parts: { Self → List ℕ };
@@ -18,13 +17,9 @@ pub trait Kind: Copy {
     // the value that has these parts, where the kind has one
     ghost value: { List ℕ → Option Self };
 
-    // How many parts a value has.
-    fn part_count() -> usize
-        ensures { result ≡ size };
+    const SIZE: usize;
 
-    // The largest number that a part may be.
-    fn part_limit() -> u64
-        ensures { result ≡ limit };
+    const LIMIT: u64;
 
     // The part at an index, or none past the last.
     fn part(self, index: usize) -> Option<u64>
@@ -35,10 +30,10 @@ pub trait Kind: Copy {
         ensures { result ≡ built (value given.now) (length given.now) };
 
     // a value has one to four parts, and the limit of a part is at most 64 bits
-    ghost few: { (1 ≤ size) × (size ≤ 4) × (limit < 2 ^ 64) };
+    ghost few: { (1 ≤ SIZE) × (SIZE ≤ 4) × (LIMIT < 2 ^ 64) };
 
     // a value's parts are as many as the kind tells
-    ghost sized: { (x : Self) → length (parts x) ≡ size };
+    ghost sized: { (x : Self) → length (parts x) ≡ SIZE };
 
     // the parts of a built value are the parts given
     ghost kept: { (ps : List ℕ) (x : Self) → value ps ≡ Some x → parts x ≡ ps };
@@ -50,7 +45,7 @@ pub trait Kind: Copy {
     ghost same: { (x y : Self) → parts x ≡ parts y → x ≡ y };
 
     // no part of a built value is over the limit
-    ghost narrow: { (ps : List ℕ) (x : Self) → value ps ≡ Some x → AllByRecursion (λ p. p ≤ limit) ps };
+    ghost narrow: { (ps : List ℕ) (x : Self) → value ps ≡ Some x → All (λ p. p ≤ LIMIT) ps };
 }
 
 #[cfg(test)]

@@ -12,9 +12,13 @@ pub struct Number {
 }
 
 impl Kind for Number {
-    ghost size = { 1 };
+    ghost SIZE = { 1 };
 
-    ghost limit = { widest 64 };
+    ghost LIMIT = { widest 64 };
+
+    const SIZE: usize = 1;
+
+    const LIMIT: u64 = u64::MAX;
 
     ghost parts = { number_parts };
 
@@ -31,14 +35,6 @@ impl Kind for Number {
     ghost same = { Prim.search rules };
 
     ghost narrow = { Prim.search rules };
-
-    fn part_count() -> usize {
-        1
-    }
-
-    fn part_limit() -> u64 {
-        u64::MAX
-    }
 
     fn part(self, index: usize) -> Option<u64> {
         match index {

@@ -1,13 +1,14 @@
 // A stock record: how many sheets of a paper are on hand, how many of them are promised, and what a
 // sheet costs. Three parts of 32 bits. The fields are private, so that only building makes a record,
 // and every built one has promised at most on hand.
-ghost use Rattle.std.specs.Prelude.{◌≡◌, ◌≤◌, length, IfOk};
+ghost use Rattle.std.specs.Prelude.{◌≡◌, ◌≤◌, length, Some, IfOk};
 ghost use Rattle.value.specs.Kind.{built, widest};
-ghost use Rattle.value.specs.StockRecord.{stock_parts, stock_of};
+ghost use Rattle.value.specs.StockRecord.{stock_parts, stock_of, stock_text, cents_text};
 ghost use Rattle.std.proofs.Common.{rules};
 
 use crate::fault::ValueFault;
 use crate::kind::Kind;
+use std::fmt;
 
 #[derive(Clone, Copy, PartialEq, Eq, Debug)]
 pub struct StockRecord {
@@ -41,9 +42,14 @@ impl StockRecord {
 }
 
 impl Kind for StockRecord {
-    ghost size = { 3 };
+    ghost SIZE = { 3 };
 
-    ghost limit = { widest 32 };
+    ghost LIMIT = { widest 32 };
+
+    const SIZE: usize = 3;
+
+    // A cast, since a constant cannot call `From`.
+    const LIMIT: u64 = u32::MAX as u64;
 
     ghost parts = { stock_parts };
 
@@ -61,21 +67,9 @@ impl Kind for StockRecord {
 
     ghost narrow = { Prim.search rules };
 
-    fn part_count() -> usize {
-        3
-    }
-
-    fn part_limit() -> u64 {
-        u32::MAX as u64
-    }
-
     fn part(self, index: usize) -> Option<u64> {
-        match index {
-            0 => Some(self.on_hand as u64),
-            1 => Some(self.promised as u64),
-            2 => Some(self.price as u64),
-            _ => None,
-        }
+        let parts = [self.on_hand, self.promised, self.price];
+        parts.get(index).copied().map(u64::from)
     }
 
     // A built record has promised at most on hand.
@@ -87,14 +81,48 @@ impl Kind for StockRecord {
         let [on_hand, promised, price] = given else {
             return Err(refused);
         };
-        if *on_hand > Self::part_limit() || *promised > *on_hand || *price > Self::part_limit() {
+        if promised > on_hand {
             return Err(refused);
         }
+        let narrowed = |part: u64| u32::try_from(part).map_err(|_| refused);
         Ok(StockRecord {
-            on_hand: *on_hand as u32,
-            promised: *promised as u32,
-            price: *price as u32,
+            on_hand: narrowed(*on_hand)?,
+            promised: narrowed(*promised)?,
+            price: narrowed(*price)?,
         })
+    }
+}
+
+impl fmt::Display for StockRecord {
+    ghost output = { λ x. Some (stock_text x) };
+
+    fn fmt<W: fmt::Write>(&self, f: &mut fmt::Formatter<W>) -> fmt::Result {
+        let StockRecord {
+            on_hand,
+            promised,
+            price,
+        } = *self;
+        let cents = Cents(price);
+        write!(
+            f,
+            "{on_hand} sheets on hand, {promised} promised, {cents} cents a sheet"
+        )
+    }
+}
+
+// A price in hundredths of a cent, printed in cents.
+#[derive(Clone, Copy)]
+struct Cents(u32);
+
+impl fmt::Display for Cents {
+    ghost output = { λ price. Some (cents_text price.0) };
+
+    fn fmt<W: fmt::Write>(&self, f: &mut fmt::Formatter<W>) -> fmt::Result {
+        let Cents(price) = *self;
+        let cents = price / 100;
+        let tenths = price / 10 % 10;
+        let hundredths = price % 10;
+        write!(f, "{cents}.{tenths}{hundredths}")
     }
 }
 
@@ -134,6 +162,6 @@ mod tests {
             detail: 4,
             layer: Layer::Data,
         };
-        assert_eq!(rt; ValueFault::NoValue(4).refusal(), told);
+        assert_eq!(rt; Refusal::from(ValueFault::NoValue(4)), told);
     }
 }

@@ -1,30 +1,17 @@
-use Rattle.std.proofs.Common.{◌≡◌, ◌-◌, true, cond, length, sym, refl, ap, ◌∙◌, arith}
-use Rattle.locks.specs.ObjectMap.{lawful, begun}
-use Rattle.locks.proofs.Starts.{counts_lawful, counts_none, guarded}
+use Rattle.std.specs.Prelude.{nat_le}
+use Rattle.std.proofs.Common.{◌∙◌, rules}
+use Rattle.std.proofs.lemmas.Fn.{always_returns_same}
+use Rattle.locks.proofs.Starts.{kept_parted, Parts, last_start, guarded}
 use Rattle.locks.proofs.object_map.ObjectMapLockMap.lock.Goals as goal
 
-pub returns-then-self-eq0 : goal.returns-then-self-eq0
-returns-then-self-eq0 c =
-    let xs = c.args.self.now.starts.now in
-    let none = sym c.args.self.now.counts ∙ c.if-self-eq0.true in
-    record {
-      told = sym (ap (λ b. cond b (begun c.args.place xs - 1) 0) (counts_none xs none));
-      none = λ _. refl;
-      below = λ some. some;
-      last = λ some. absurd (omega (arith, none, some));
-    }
+parts : (c : goal.After-saturating_sub) → Parts c.args.self.now.starts.now c.args.place c.partition_point-up_to.result
+parts c = c.partition_point-up_to.ensures.partitioned (λ start. nat_le start c.args.place)
+    (always_returns_same _ _ _ (λ a r f' k. search rules)) (kept_parted _ c.args.place c.args.self.now.counts)
 
-pub starts_up_to-requires : goal.starts_up_to-requires
-starts_up_to-requires c =
-    counts_lawful c.args.self.now.starts.now (λ none. c.if-self-eq0.false (c.args.self.now.counts ∙ none))
+pub returns-clause-told : goal.returns-clause-told
+returns-clause-told c =
+    c.saturating_sub.ensures ∙ guarded _ _ _ c.args.self.now.counts c.partition_point-up_to.ensures.bound (parts c)
 
-pub returns : goal.returns
-returns c =
-    let xs = c.args.self.now.starts.now in
-    let fit : lawful xs ≡ true = counts_lawful xs (λ none. c.if-self-eq0.false (c.args.self.now.counts ∙ none)) in
-    record {
-      told = guarded xs c.args.place _ fit c.starts_up_to.ensures.last;
-      none = λ none. absurd (c.if-self-eq0.false (c.args.self.now.counts ∙ none));
-      below = λ some. omega (arith, c.starts_up_to.ensures.last.within, ap (λ b. cond b (length xs) 0) fit);
-      last = λ some. c.starts_up_to.ensures.last;
-    }
+pub returns-clause-last : goal.returns-clause-last
+returns-clause-last c = rw c.saturating_sub.ensures
+    (last_start _ _ _ c.args.self.now.counts c.partition_point-up_to.ensures.bound (parts c))

@@ -1,5 +1,5 @@
 use Rattle.std.proofs.Common.{arith, length-take}
 use Rattle.memory.proofs.flat.FlatMemory.count.Goals as goal
 
-pub returns : goal.returns
-returns g c = record { told = simp length-take (omega arith); most = omega arith }
+pub returns-clause-told : goal.returns-clause-told
+returns-clause-told g c = simp length-take (omega arith)

@@ -1,30 +1,26 @@
-use Rattle.std.proofs.Common.{refl}
-use Rattle.std.proofs.lemmas.Result.{err_from_is_err_and}
-use Rattle.memory.specs.Cells.{most_cells, counted, beyond}
-use Rattle.memory.proofs.Places.{refused_store, unchanged_past, stored_here, set_here, beyond_here}
+use borrow.Author.Rules.{scaled_Fits}
+use Rattle.std.proofs.Common.{sym, arith, length-take, drop-set-lt}
+use Rattle.std.proofs.Math.Seq.{take-set-lt}
+use Rattle.memory.specs.Cells.{most_cells}
+use Rattle.memory.proofs.Places.{stored_within, stored_past}
 use Rattle.memory.proofs.flat.FlatMemory.store.Goals as goal
 
-pub returns-in_err-index : goal.returns-in_err-index
-returns-in_err-index g c =
-    let p = err_from_is_err_and c.from_residual.result c.from_residual.ensures.1 in
-    let past = c.in_err-index.ensures in
-    record {
-      answer = refused_store (counted c.args.self.now.cells.now) c.args.place p.1 p.2 past;
-      after = unchanged_past (counted c.args.self.now.cells.now) c.args.place c.args.value past;
-      rest = refl {a = beyond c.args.self.now.cells.now};
-      lender = refl {a = c.args.self.now.cells.ghost_name};
-    }
+pub returns-then-place-count-clause-answer : goal.returns-then-place-count-clause-answer
+returns-then-place-count-clause-answer g c = sym (stored_past _ c.args.place (omega arith))
 
-pub returns : goal.returns
-returns g c =
-    let cells = c.args.self.now.cells.now in
-    let place = c.args.place in
-    let value = c.args.value in
-    let here = c.in_ok-index.ensures in
-    let done = c.write.ensures in
-    record {
-      answer = stored_here most_cells cells place _ here.1 here.2;
-      after = set_here most_cells cells place _ here.1 here.2 value _ done;
-      rest = beyond_here most_cells cells place _ here.1 here.2 value _ done;
-      lender = refl {a = c.args.self.now.cells.ghost_name};
-    }
+pub bounds-self-place : goal.bounds-self-place
+bounds-self-place g c = omega (arith, length-take most_cells c.args.self.now.cells.now)
+
+pub offset_bounds-self-place : goal.offset_bounds-self-place
+offset_bounds-self-place g c = search (scaled_Fits, bounds-self-place g c)
+
+pub returns-clause-answer : goal.returns-clause-answer
+returns-clause-answer g c = sym (stored_within _ c.args.place (omega arith))
+
+pub returns-clause-after : goal.returns-clause-after
+returns-clause-after g c =
+    take-set-lt most_cells c.args.self.now.cells.now c.args.place c.args.value (omega arith)
+
+pub returns-clause-rest : goal.returns-clause-rest
+returns-clause-rest g c =
+    drop-set-lt most_cells c.args.self.now.cells.now c.args.place c.args.value (omega arith)

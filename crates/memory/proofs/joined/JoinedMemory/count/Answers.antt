@@ -1,5 +1,5 @@
 use Rattle.std.proofs.Common.{arith, length-append, length-take}
 use Rattle.memory.proofs.joined.JoinedMemory.count.Goals as goal
 
-pub returns : goal.returns
-returns g c = record { told = simp (length-take, length-append) (omega arith); most = omega arith }
+pub returns-clause-told : goal.returns-clause-told
+returns-clause-told g c = simp (length-take, length-append) (omega arith)
