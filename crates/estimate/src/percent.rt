@@ -19,7 +19,7 @@ impl Percent {
         Some(Percent { value })
     }
 
-    // Its value.
+    // Its value; the way back from `new`, and so no `From` either.
     pub fn value(self) -> u8
         ensures told { result ≡ self.value }
         ensures most { result ≤ 100 }

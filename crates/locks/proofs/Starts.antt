@@ -1,4 +1,4 @@
--- What the starts that a map keeps give: the check of neighbours, and the last start not above a place.
+-- What the starts of a lawful list give: the check of neighbours, and the last start not above a place.
 -- The proofs of `object_map` cite these.
 use Rattle.std.specs.Prelude.{◌≡◌, ℕ, ◌+◌, ◌-◌, ◌<◌, ◌≤◌, Bool, true, false, if◌then◌else◌, ◌&&◌, nat_le, nat_lt, List, [], ◌∷◌, length, Some, slice_get, slice_index}
 use Rattle.std.specs.List.{IsAllAdjacentAnswer}
@@ -34,15 +34,26 @@ pub lawful_rising : (xs : List ℕ) → slice_get xs 0 ≡ Some 0 → length xs 
 lawful_rising [] first few = cc
 lawful_rising (x ∷ xs) first few = grind (arith, nat_tests)
 
--- a list that a map keeps is lawful or empty: its first start is 0 where it has one, and it rises
-kept_parts : (xs : List ℕ) → object_locks xs ≡ length xs → (slice_index xs 0 ≡ 0) × (rising xs ≡ true)
-kept_parts [] counts = (refl, refl)
-kept_parts (x ∷ xs) counts = grind (arith, nat_tests)
+-- the first start of a lawful list is 0, and the list rises
+lawful_parts : (xs : List ℕ) → lawful xs ≡ true → (slice_index xs 0 ≡ 0) × (rising xs ≡ true)
+lawful_parts [] fit = cc
+lawful_parts (x ∷ xs) fit = grind (arith, nat_tests)
 
 -- so the starts not above a place come before those above it
-pub kept_parted : (xs : List ℕ) (p : ℕ) → object_locks xs ≡ length xs → IsPartitionedBy (λ y. nat_le y p) xs
-kept_parted xs p counts = IsPartitionedBy-leb (λ y. y) xs p (IsNonDecreasingBy-from_all_adjacent (λ y. y) xs
-    (λ k d within. let less = rising_next xs (kept_parts xs counts).1 k d within in omega arith))
+pub lawful_parted : (xs : List ℕ) (p : ℕ) → lawful xs ≡ true → IsPartitionedBy (λ y. nat_le y p) xs
+lawful_parted xs p fit = IsPartitionedBy-leb (λ y. y) xs p (IsNonDecreasingBy-from_all_adjacent (λ y. y) xs
+    (λ k d within. let less = rising_next xs (lawful_parts xs fit).1 k d within in omega arith))
+
+-- a map counts locks only if its starts are lawful; with none its answer is 0
+pub counts_lawful : (xs : List ℕ) → (object_locks xs ≡ 0 → ⊥) → lawful xs ≡ true
+counts_lawful xs counts =
+    ⊎_elim (λ fit. fit) (λ unfit. absurd (counts (ap (λ b. if b then length xs else 0) unfit))) (cases_Bool (lawful xs))
+
+pub guard_none : (xs : List ℕ) (p : ℕ) → object_locks xs ≡ 0 → 0 ≡ object_guard xs p
+guard_none [] p none = refl
+guard_none (x ∷ xs) p none =
+    ⊎_elim (λ fit. absurd (let all = ap (λ b. if b then length (x ∷ xs) else 0) fit in omega (arith, all, none)))
+    (λ unfit. sym (ap (λ b. if b then begun p (x ∷ xs) - 1 else 0) unfit)) (cases_Bool (lawful (x ∷ xs)))
 
 -- the first i starts are not above the place, and the rest are
 abbrev pub Parts : List ℕ → ℕ → ℕ → Type 0
@@ -58,19 +69,15 @@ begun_parts (x ∷ xs) p (suc i) within (front, back) =
     ) in
     rw (front 0 0 (omega arith) (omega arith)) (omega (arith, rest))
 
--- one less than the starts begun, also where the map has no locks
-less_one : (b : Bool) (size all n : ℕ) → (if b then size else 0) ≡ size → n ≤ size → all ≡ n
-    → n - 1 ≡ (if b then all - 1 else 0)
-less_one true size all n counts within same = omega arith
-less_one false size all n counts within same = omega arith
+module _ (xs : List ℕ) (p i : ℕ) (fit : lawful xs ≡ true) (within : i ≤ length xs) (parts : Parts xs p i) where
+  -- the first start is not above the place
+  pub some_begun : 1 ≤ i
+  some_begun = let first = (lawful_parts xs fit).0 in grind (arith, nat_tests, parts.1 0 0)
 
-module _ (xs : List ℕ) (p i : ℕ)
-    (counts : object_locks xs ≡ length xs) (within : i ≤ length xs) (parts : Parts xs p i) where
   -- the start before that point is the last one not above the place
-  pub last_start : 0 < object_locks xs → LastStart xs p (i - 1)
-  last_start some =
-      let first = (kept_parts xs counts).0 in
-      let up : 0 < i = grind (arith, nat_tests, parts.1 0 0) in
+  pub last_start : LastStart xs p (i - 1)
+  last_start =
+      let some = some_begun in
       record {
         within = omega arith;
         begins = leb-true _ _ (parts.0 (i - 1) 0 (omega arith) (omega arith));
@@ -79,4 +86,4 @@ module _ (xs : List ℕ) (p i : ℕ)
 
   -- its index is the answer by the definition of the map
   pub guarded : i - 1 ≡ object_guard xs p
-  guarded = less_one (lawful xs) (length xs) (begun p xs) i counts within (begun_parts xs p i within parts)
+  guarded = sym (ap (λ b. if b then begun p xs - 1 else 0) fit ∙ ap (λ n. n - 1) (begun_parts xs p i within parts))

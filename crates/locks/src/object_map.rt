@@ -1,6 +1,6 @@
 // The object map: a lock for each object, by the place at which it starts. The list of starts is lent
 // and looked over once, as the map is made; a place is then found by halving the list.
-ghost use Rattle.std.specs.Prelude.{◌≡◌, ℕ, ◌<◌, length};
+ghost use Rattle.std.specs.Prelude.{◌≡◌, ◌<◌};
 ghost use Rattle.locks.specs.ObjectMap.{object_locks, object_guard, lawful, LastStart};
 
 use crate::lock_map::LockMap;
@@ -8,22 +8,25 @@ use crate::lock_map::LockMap;
 // The most objects that a map may have.
 pub const MOST_OBJECTS: usize = 256;
 
-// The map keeps the starts it was given where they are lawful, and none otherwise.
 #[derive(Drop)]
 pub struct ObjectMap<'a> {
     starts: &'a [u32],
-    ghost counts: { object_locks starts.now ≡ length starts.now },
+    // no length beside a list: it is 0 where the starts are not lawful, and the map still tells which it was given
+    locks: u32,
+    ghost counts: { locks ≡ object_locks starts.now },
 }
 
 impl<'a> ObjectMap<'a> {
     // A map over these starts. Where they are not lawful it counts 0 locks.
     pub fn new(starts: &'a [u32]) -> Self
-        ensures kept { 0 < object_locks starts.now → result.starts.now ≡ starts.now }
-        ensures locks { object_locks result.starts.now ≡ object_locks starts.now }
-        ensures guard { (p : ℕ) → object_guard result.starts.now p ≡ object_guard starts.now p }
+        ensures { result.starts.now ≡ starts.now }
     {
-        let starts = if is_lawful(starts) { starts } else { &[] };
-        ObjectMap { starts }
+        let locks = if is_lawful(starts) {
+            starts.len() as u32
+        } else {
+            0
+        };
+        ObjectMap { starts, locks }
     }
 }
 
@@ -33,7 +36,7 @@ impl LockMap for ObjectMap<'_> {
     ghost guard = { λ m p. object_guard m.starts.now p };
 
     fn count(&self) -> u32 {
-        self.starts.len() as u32
+        self.locks
     }
 
     // With locks to count, the index of the last start not above the place.
@@ -43,8 +46,11 @@ impl LockMap for ObjectMap<'_> {
         ensures below { 0 < object_locks self.now.starts.now → result < object_locks self.now.starts.now }
         ensures last { 0 < object_locks self.now.starts.now → LastStart self.now.starts.now place result }
     {
+        if self.locks == 0 {
+            return 0;
+        }
         let up_to = self.starts.partition_point(|start| *start <= place);
-        up_to.saturating_sub(1) as u32
+        up_to as u32 - 1
     }
 }
 

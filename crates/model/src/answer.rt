@@ -42,8 +42,8 @@ pub enum Detail<V> {
 }
 
 impl<V: Copy> Answer<V> {
-    // The answer's word, as a listing prints it. A text and no `Display`, since a line is laid out without a heap in a
-    // buffer of fixed size.
+    // The answer's word, as a listing prints it. Word and detail apart, and no `Display`: a listing prints a value by its
+    // parts, and `Display` would ask a text of `V`.
     pub fn word(self) -> &'static str
         ensures { result.now ≡ (shown self).0 }
     {
@@ -69,7 +69,7 @@ impl<V: Copy> Answer<V> {
         }
     }
 
-    // The number or value behind the word, where the answer has one.
+    // The number or value behind the word, where the answer has one; apart from it, as said there.
     pub fn detail(self) -> Option<Detail<V>>
         ensures { result ≡ (shown self).1 }
     {

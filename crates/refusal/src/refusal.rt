@@ -7,7 +7,7 @@ use std::fmt;
 
 #[derive(Clone, Copy, PartialEq, Eq, Debug)]
 pub struct Refusal {
-    // which rule refused; a number, since listings print it, and the fault that drew it is an enum
+    // which rule refused; a number, since its rules are cases of the faults of all crates above, each an enum there
     pub number: u8,
     // what the rule names: a place, a slot, a count
     pub detail: u64,

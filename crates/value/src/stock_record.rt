@@ -110,7 +110,8 @@ impl fmt::Display for StockRecord {
     }
 }
 
-// A price in hundredths of a cent, printed in cents.
+// A price in hundredths of a cent, printed in cents. Digit by digit, since the text is then stated by digits, where
+// `{:02}` states it by the library's rules of padding.
 #[derive(Clone, Copy)]
 struct Cents(u32);
 

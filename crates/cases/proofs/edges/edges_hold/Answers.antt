@@ -1,4 +1,4 @@
--- The check finds these alone, but of a table that is wrong it then says no more than that its search gave up.
+-- Computed, and not left to a search: of a table that is wrong the search would say only that it gave up.
 use Rattle.std.proofs.Common.{refl}
 use Rattle.cases.proofs.edges.edges_hold.Goals as goal
 
