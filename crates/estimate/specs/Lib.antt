@@ -1,3 +1,4 @@
+pub mod Percent
 pub mod Fault
 pub mod Quote
 pub mod Book

@@ -99,15 +99,11 @@ mod tests {
 
     fn terms(wastage: u8, fold: u32, discount: u8, large: u16) -> Result<Terms, Fail> {
         Ok(Terms {
-            wastage: percent(wastage)?,
+            wastage: Percent::try_from(wastage)?,
             fold,
-            discount: percent(discount)?,
+            discount: Percent::try_from(discount)?,
             large,
         })
-    }
-
-    fn percent(value: u8) -> Result<Percent, Fail> {
-        Percent::new(value).ok_or_else(|| Fail::new("the percentage is over 100"))
     }
 
     fn order(copies: u16, pages: u16, terms: Terms) -> Order {

@@ -11,7 +11,7 @@ pub const MOST_OBJECTS: usize = 256;
 #[derive(Drop)]
 pub struct ObjectMap<'a> {
     starts: &'a [u32],
-    // no length beside a list: it is 0 where the starts are not lawful, and the map still tells which it was given
+    // no length beside a list: it is 0 where the starts are not lawful, and `new` promises the list that it was given
     locks: u32,
     ghost counts: { locks ≡ object_locks starts.now },
 }

@@ -1,9 +1,11 @@
 // The refusal of a memory that has no cell at the place asked for.
-ghost use Rattle.std.specs.Prelude.{◌≡◌};
-ghost use Rattle.memory.specs.Fault.{told};
+ghost use Rattle.std.specs.Prelude.{◌≡◌, Some};
+ghost use Rattle.memory.specs.Fault.{told, fault_text};
 
 use refusal::layer::Layer;
 use refusal::refusal::Refusal;
+use std::error::Error;
+use std::fmt;
 
 #[derive(Clone, Copy, PartialEq, Eq, Debug)]
 pub enum MemoryFault {
@@ -24,3 +26,14 @@ impl From<MemoryFault> for Refusal {
         }
     }
 }
+
+impl fmt::Display for MemoryFault {
+    ghost output = { λ fault. Some (fault_text fault) };
+
+    fn fmt<W: fmt::Write>(&self, f: &mut fmt::Formatter<W>) -> fmt::Result {
+        let MemoryFault::PastEnd(place) = *self;
+        write!(f, "there is no cell at place {place}")
+    }
+}
+
+impl Error for MemoryFault {}

@@ -1,7 +1,6 @@
 // Quotes a choir's orders from a price book, and prints each action as it does it.
 #![tactic(auto)]
 
-use anyhow::Context;
 use estimate::book::promise;
 use estimate::order::{Order, Terms};
 use estimate::percent::Percent;
@@ -21,8 +20,14 @@ fn main(rt: HostRuntime) -> anyhow::Result<()> {
 // Two shelves make the book. A choir's order is quoted and its paper promised; an order too large for
 // the stock and one for a paper that the book does not have are refused, and leave the book as it was.
 fn run(rt: &impl Print) -> anyhow::Result<()> {
-    let mut music = [paper(2_000, 650, 230)?, paper(4_500, 1_200, 310)?];
-    let mut covers = [paper(800, 0, 940)?, paper(600, 450, 1_275)?];
+    let mut music = [
+        StockRecord::build(&[2_000, 650, 230])?,
+        StockRecord::build(&[4_500, 1_200, 310])?,
+    ];
+    let mut covers = [
+        StockRecord::build(&[800, 0, 940])?,
+        StockRecord::build(&[600, 450, 1_275])?,
+    ];
     println!(rt; "Opening the price book: a shelf of music paper, a shelf of covers behind it.")?;
     let book = Joined {
         first: Flat { cells: &mut music },
@@ -39,26 +44,15 @@ fn run(rt: &impl Print) -> anyhow::Result<()> {
     Ok(())
 }
 
-// A record of the example.
-fn paper(on_hand: u64, promised: u64, price: u64) -> anyhow::Result<StockRecord> {
-    StockRecord::build(&[on_hand, promised, price])
-        .ok()
-        .context("the example promises more paper than it has")
-}
-
 // The terms of the example: 5 in 100 sheets spoilt, 0.45 cents to fold a sheet, 8 in 100 off from 50
 // copies on.
 fn house_terms() -> anyhow::Result<Terms> {
     Ok(Terms {
-        wastage: percent(5)?,
+        wastage: Percent::try_from(5)?,
         fold: 45,
-        discount: percent(8)?,
+        discount: Percent::try_from(8)?,
         large: 50,
     })
-}
-
-fn percent(value: u8) -> anyhow::Result<Percent> {
-    Percent::new(value).context("a percentage of the example is over 100")
 }
 
 fn order(copies: u16, pages: u16, paper: u32, terms: Terms) -> Order {

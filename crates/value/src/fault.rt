@@ -1,9 +1,11 @@
 // The refusal of a kind that cannot build a value from the parts it was given.
-ghost use Rattle.std.specs.Prelude.{◌≡◌};
-ghost use Rattle.value.specs.Fault.{told};
+ghost use Rattle.std.specs.Prelude.{◌≡◌, Some};
+ghost use Rattle.value.specs.Fault.{told, fault_text};
 
 use refusal::layer::Layer;
 use refusal::refusal::Refusal;
+use std::error::Error;
+use std::fmt;
 
 #[derive(Clone, Copy, PartialEq, Eq, Debug)]
 pub enum ValueFault {
@@ -24,3 +26,14 @@ impl From<ValueFault> for Refusal {
         }
     }
 }
+
+impl fmt::Display for ValueFault {
+    ghost output = { λ fault. Some (fault_text fault) };
+
+    fn fmt<W: fmt::Write>(&self, f: &mut fmt::Formatter<W>) -> fmt::Result {
+        let ValueFault::NoValue(given) = *self;
+        write!(f, "no value has these {given} parts")
+    }
+}
+
+impl Error for ValueFault {}
