@@ -34,20 +34,37 @@ pub lawful_rising : (xs : List ℕ) → slice_get xs 0 ≡ Some 0 → length xs 
 lawful_rising [] first few = cc
 lawful_rising (x ∷ xs) first few = grind (arith, nat_tests)
 
--- the first start of a lawful list is 0, and the list rises
-lawful_parts : (xs : List ℕ) → lawful xs ≡ true → (slice_index xs 0 ≡ 0) × (rising xs ≡ true)
+-- what lawful says
+pub record Lawful (xs : List ℕ) : Type 0 where
+  pub some : 0 < length xs
+  pub few : length xs ≤ most_objects
+  pub from_zero : slice_index xs 0 ≡ 0
+  pub up : rising xs ≡ true
+
+pub lawful_parts : (xs : List ℕ) → lawful xs ≡ true → Lawful xs
 lawful_parts [] fit = cc
-lawful_parts (x ∷ xs) fit = grind (arith, nat_tests)
+lawful_parts (x ∷ xs) fit = record {
+  some = omega arith;
+  few = grind (arith, nat_tests);
+  from_zero = grind (arith, nat_tests);
+  up = grind (arith, nat_tests);
+}
 
 -- so the starts not above a place come before those above it
 pub lawful_parted : (xs : List ℕ) (p : ℕ) → lawful xs ≡ true → IsPartitionedBy (λ y. nat_le y p) xs
 lawful_parted xs p fit = IsPartitionedBy-leb (λ y. y) xs p (IsNonDecreasingBy-from_all_adjacent (λ y. y) xs
-    (λ k d within. let less = rising_next xs (lawful_parts xs fit).1 k d within in omega arith))
+    (λ k d within. let less = rising_next xs (lawful_parts xs fit).up k d within in omega arith))
 
 -- a map counts locks only if its starts are lawful; with none its answer is 0
 pub counts_lawful : (xs : List ℕ) → (object_locks xs ≡ 0 → ⊥) → lawful xs ≡ true
 counts_lawful xs counts =
     ⊎_elim (λ fit. fit) (λ unfit. absurd (counts (ap (λ b. if b then length xs else 0) unfit))) (cases_Bool (lawful xs))
+
+pub counts_none : (xs : List ℕ) → object_locks xs ≡ 0 → lawful xs ≡ false
+counts_none xs none = ⊎_elim
+    (λ fit. absurd (let some = (lawful_parts xs fit).some in
+    omega (arith, none, ap (λ b. if b then length xs else 0) fit)))
+    (λ unfit. unfit) (cases_Bool (lawful xs))
 
 pub guard_none : (xs : List ℕ) (p : ℕ) → object_locks xs ≡ 0 → 0 ≡ object_guard xs p
 guard_none [] p none = refl
@@ -72,7 +89,7 @@ begun_parts (x ∷ xs) p (suc i) within (front, back) =
 module _ (xs : List ℕ) (p i : ℕ) (fit : lawful xs ≡ true) (within : i ≤ length xs) (parts : Parts xs p i) where
   -- the first start is not above the place
   pub some_begun : 1 ≤ i
-  some_begun = let first = (lawful_parts xs fit).0 in grind (arith, nat_tests, parts.1 0 0)
+  some_begun = let first = (lawful_parts xs fit).from_zero in grind (arith, nat_tests, parts.1 0 0)
 
   -- the start before that point is the last one not above the place
   pub last_start : LastStart xs p (i - 1)

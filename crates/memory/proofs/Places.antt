@@ -1,6 +1,6 @@
 -- What a memory answers at a place of its cells, and of cells set behind one another. The proofs of `Flat` and
 -- `Joined` cite these.
-use Rattle.std.proofs.Common.{◌≡◌, ℕ, zero, suc, ◌-◌, ◌<◌, ◌≤◌, List, [], ◌∷◌, ◌++◌, length, take, drop, set, Some, None, Ok, Err, Option, Bor, sym, refl, ap, ◌∙◌, rules, arith, length-append, length-take, drop-set-lt, option_copied, SomeIff}
+use Rattle.std.proofs.Common.{◌≡◌, ℕ, zero, suc, ◌-◌, ◌<◌, ◌≤◌, List, [], ◌∷◌, ◌++◌, length, take, drop, set, Some, None, Ok, Err, Option, Bor, sym, refl, ap, ◌∙◌, subst, rules, arith, length-append, length-take, drop-set-lt, option_copied, SomeIff}
 use Rattle.std.proofs.Math.Seq.{take-set-lt}
 use Rattle.std.proofs.lemmas.List.{set-append_left, set-append_right, take_min}
 use Rattle.std.proofs.lemmas.Option.{slice_get_past, slice_get_cases}
@@ -28,9 +28,10 @@ module _ {V : Type 0} where
   take_count n cs same = ap (λ k. take k cs) (same ∙ length-take n cs) ∙ take_min n cs
 
   -- what `get` finds, copied
-  pub loaded_at : (cs : List V) (p : ℕ) (o : Option (Bor V)) → IsItemAt cs p o
+  pub loaded_at : (cs : List V) (p : ℕ) {i : ℕ} (o : Option (Bor V)) → IsItemAt cs i o → i ≡ p
       → ok_or (option_copied o) (PastEnd p) ≡ loaded cs p
-  loaded_at cs p o found = ap (λ r. ok_or r (PastEnd p)) (copied_from_item cs p p o (λ h. h) (λ h. h) found)
+  loaded_at cs p {i} o found same =
+      ap (λ r. ok_or r (PastEnd p)) (copied_from_item cs p p o (λ h. h) (λ h. h) (subst (λ k. IsItemAt cs k o) same found))
 
   -- the first n cells have what all have there
   slice_get-take : (n : ℕ) (cs : List V) (p : ℕ) → p < n → slice_get (take n cs) p ≡ slice_get cs p

@@ -11,5 +11,5 @@ slice_bounds-get-end-2 g c = simp length-take (omega (arith, length-take most_ce
 pub returns : goal.returns
 returns g c =
     c.ok_or.ensures.value ∙ ap (λ o. ok_or o (PastEnd c.args.place)) c.copied.ensures
-    ∙ loaded_at _ c.args.place c.get.result c.get.ensures.lookup
+    ∙ loaded_at _ c.args.place c.get.result c.get.ensures.lookup (omega arith)
     ∙ ap (λ cells. loaded cells c.args.place) (take_count most_cells c.args.self.now.cells.now c.count.ensures.told)
