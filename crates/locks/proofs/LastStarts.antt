@@ -1,5 +1,5 @@
--- The last start not above a place, and the definition that counts the starts from the front: in a rising list either
--- gives the other. No contract needs more than `Starts`; these stand for whoever reasons of a last start.
+-- The last start not above a place tells how many starts the definition counts from the front, in a rising list. No
+-- proof cites these: the contracts need only `Starts`. They stand for whoever reasons of a last start.
 use Rattle.std.specs.Prelude.{◌≡◌, ℕ, ◌+◌, ◌-◌, ◌<◌, ◌≤◌, true, if◌then◌else◌, nat_lt, List, [], ◌∷◌, length}
 use Rattle.std.proofs.Common.{zero, suc, get_or, refl, ap, ◌∙◌, ⊎_elim, le_of_eq, arith}
 use Rattle.std.proofs.lemmas.Bool.{ltb-true, le-leb, lt-leb, and_parts, cases_lt}

@@ -1,5 +1,5 @@
 -- What the starts of a lawful list give: the check of neighbours, and the last start not above a place.
--- The proofs of `object_map` cite these.
+-- The proofs of `object_map` cite these, but for `counts_none`.
 use Rattle.std.specs.Prelude.{◌≡◌, ℕ, ◌+◌, ◌-◌, ◌<◌, ◌≤◌, Bool, true, false, if◌then◌else◌, ◌&&◌, nat_le, nat_lt, List, [], ◌∷◌, length, Some, slice_get, slice_index}
 use Rattle.std.specs.List.{IsAllAdjacentAnswer}
 use Rattle.std.specs.List.Sorted.{IsPartitionedBy, IsPartitionPoint}
@@ -55,7 +55,7 @@ pub lawful_parted : (xs : List ℕ) (p : ℕ) → lawful xs ≡ true → IsParti
 lawful_parted xs p fit = IsPartitionedBy-leb (λ y. y) xs p (IsNonDecreasingBy-from_all_adjacent (λ y. y) xs
     (λ k d within. let less = rising_next xs (lawful_parts xs fit).up k d within in omega arith))
 
--- a map counts locks only if its starts are lawful; with none its answer is 0
+-- a map counts locks exactly if its starts are lawful; with none its answer is 0
 pub counts_lawful : (xs : List ℕ) → (object_locks xs ≡ 0 → ⊥) → lawful xs ≡ true
 counts_lawful xs counts =
     ⊎_elim (λ fit. fit) (λ unfit. absurd (counts (ap (λ b. if b then length xs else 0) unfit))) (cases_Bool (lawful xs))

@@ -40,6 +40,15 @@ module _ {V : Type 0} where
   slice_get-take (suc n) (c ∷ cs) zero h = refl
   slice_get-take (suc n) (c ∷ cs) (suc p) h = slice_get-take n cs p (omega arith)
 
+  -- a cell set among the first n: they have it, and those behind them stay
+  pub set_counted : (n : ℕ) (cs : List V) {i : ℕ} (p : ℕ) {w : V} (v : V) → p < n → i ≡ p → w ≡ v
+      → take n (set cs i w) ≡ set (take n cs) p v
+  set_counted n cs p {w} v less at is =
+      ap (λ j. take n (set cs j w)) at ∙ ap (λ x. take n (set cs p x)) is ∙ take-set-lt n cs p v less
+
+  pub set_behind : (n : ℕ) (cs : List V) {i : ℕ} (p : ℕ) (w : V) → p < n → i ≡ p → drop n (set cs i w) ≡ drop n cs
+  set_behind n cs p w less at = ap (λ j. drop n (set cs j w)) at ∙ drop-set-lt n cs p w less
+
 -- what `checked_sub` tells of a place p and the number k of cells in front
 pub in_first : {k p : ℕ} (o : Option ℕ) → SomeIff o (k ≤ p) (p - k) → o ≡ None → p < k
 in_first None h is = omega arith

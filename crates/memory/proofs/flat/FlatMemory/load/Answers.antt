@@ -10,6 +10,8 @@ slice_bounds-get-end-2 g c = simp length-take (omega (arith, length-take most_ce
 
 pub returns : goal.returns
 returns g c =
+    let cells = c.args.self.now.cells.now in
+    let most = length-take most_cells cells in
     c.ok_or.ensures.value ∙ ap (λ o. ok_or o (PastEnd c.args.place)) c.copied.ensures
     ∙ loaded_at _ c.args.place c.get.result c.get.ensures.lookup (omega arith)
-    ∙ ap (λ cells. loaded cells c.args.place) (take_count most_cells c.args.self.now.cells.now c.count.ensures.told)
+    ∙ ap (λ cs. loaded cs c.args.place) (take_count most_cells cells (omega (arith, c.count.ensures.told, most)))

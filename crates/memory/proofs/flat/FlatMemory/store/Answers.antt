@@ -1,8 +1,7 @@
 use borrow.Author.Rules.{scaled_Fits}
-use Rattle.std.proofs.Common.{sym, arith, length-take, drop-set-lt}
-use Rattle.std.proofs.Math.Seq.{take-set-lt}
+use Rattle.std.proofs.Common.{sym, rules, arith, length-take}
 use Rattle.memory.specs.Cells.{most_cells}
-use Rattle.memory.proofs.Places.{stored_within, stored_past}
+use Rattle.memory.proofs.Places.{stored_within, stored_past, set_counted, set_behind}
 use Rattle.memory.proofs.flat.FlatMemory.store.Goals as goal
 
 pub returns-then-place-count-clause-answer : goal.returns-then-place-count-clause-answer
@@ -19,8 +18,8 @@ returns-clause-answer g c = sym (stored_within _ c.args.place (omega arith))
 
 pub returns-clause-after : goal.returns-clause-after
 returns-clause-after g c =
-    take-set-lt most_cells c.args.self.now.cells.now c.args.place c.args.value (omega arith)
+    set_counted most_cells c.args.self.now.cells.now c.args.place c.args.value (omega arith) (omega arith) (search rules)
 
 pub returns-clause-rest : goal.returns-clause-rest
 returns-clause-rest g c =
-    drop-set-lt most_cells c.args.self.now.cells.now c.args.place c.args.value (omega arith)
+    set_behind most_cells c.args.self.now.cells.now c.args.place _ (omega arith) (omega arith)
