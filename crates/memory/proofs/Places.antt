@@ -31,7 +31,8 @@ module _ {V : Type 0} where
   pub loaded_at : (cs : List V) (p : ℕ) {i : ℕ} (o : Option (Bor V)) → IsItemAt cs i o → i ≡ p
       → ok_or (option_copied o) (PastEnd p) ≡ loaded cs p
   loaded_at cs p {i} o found same =
-      ap (λ r. ok_or r (PastEnd p)) (copied_from_item cs p p o (λ h. h) (λ h. h) (subst (λ k. IsItemAt cs k o) same found))
+      let here : IsItemAt cs p o = subst (λ k. IsItemAt cs k o) same found in
+      ap (λ r. ok_or r (PastEnd p)) (copied_from_item cs p p o (λ h. h) (λ h. h) here)
 
   -- the first n cells have what all have there
   slice_get-take : (n : ℕ) (cs : List V) (p : ℕ) → p < n → slice_get (take n cs) p ≡ slice_get cs p

@@ -18,7 +18,8 @@ returns-clause-answer g c = sym (stored_within _ c.args.place (omega arith))
 
 pub returns-clause-after : goal.returns-clause-after
 returns-clause-after g c =
-    set_counted most_cells c.args.self.now.cells.now c.args.place c.args.value (omega arith) (omega arith) (search rules)
+    let cells = c.args.self.now.cells.now in
+    set_counted most_cells cells c.args.place c.args.value (omega arith) (omega arith) (search rules)
 
 pub returns-clause-rest : goal.returns-clause-rest
 returns-clause-rest g c =
